@@ -11,11 +11,11 @@ pub record Onward (r s : Reader) : Type 0 where
   pub forth : r .at ≤ s .at
 
 -- where a bracket was read there was a level to open
-abbrev pub Opened : ℕ → Reader → Reader → Token → Type 0
-Opened levels r s Object = 0 < levels
-Opened levels r s Array = 0 < levels
-Opened levels r s (String x) = Unit {0}
-Opened levels r s (Number x) = Unit {0}
-Opened levels r s True = Unit {0}
-Opened levels r s False = Unit {0}
-Opened levels r s Null = Unit {0}
+abbrev pub Opened : ℕ → Token → Type 0
+Opened levels Object = 0 < levels
+Opened levels Array = 0 < levels
+Opened levels (String x) = Unit {0}
+Opened levels (Number x) = Unit {0}
+Opened levels True = Unit {0}
+Opened levels False = Unit {0}
+Opened levels Null = Unit {0}

@@ -18,3 +18,4 @@ pub use token::Member;
 pub use token::Placed;
 pub use token::Token;
 pub use value::check;
+pub use value::check_length;

@@ -1,10 +1,14 @@
 // What a number stands for.
+ghost use Prim.Native.Nat.{_≤_};
+ghost use Rattle.std.specs.Options.{Cases};
 
 // The largest value after which one more digit may still fit 31 bits.
 const LARGEST_PREFIX: u32 = 214748364;
 
 // The number that the digits write without a leading zero, if it is at most `most`.
-fn size_of(digits: &[u8], most: u32) -> Option<u32> {
+fn size_of(digits: &[u8], most: u32) -> Option<u32>
+    ensures { λ r. ⌜ Cases r (Unit {0}) (λ size. size ≤ most) ⌝ }
+{
     let count = digits.len();
     if count == 0 {
         return None;

@@ -66,8 +66,9 @@ impl<'a> Reader<'a> {
         Ok(())
     }
 
-    fn whole_part(&mut self) -> Result<(), TextFault>
-        ensures { λ _. ⌜ Onward (now (self .entry)) (now (self .exit)) ⌝ }
+    pub(crate) fn whole_part(&mut self) -> Result<(), TextFault>
+        ensures onward { λ _. ⌜ Onward (now (self .entry)) (now (self .exit)) ⌝ }
+        ensures further { λ r. ⌜ made r (λ _. now (self .entry) .at < now (self .exit) .at) ⌝ }
     {
         if self.at >= self.text.len() {
             return Err(self.forbidden());
@@ -86,7 +87,7 @@ impl<'a> Reader<'a> {
         }
     }
 
-    fn fraction(&mut self) -> Result<(), TextFault>
+    pub(crate) fn fraction(&mut self) -> Result<(), TextFault>
         ensures { λ _. ⌜ Onward (now (self .entry)) (now (self .exit)) ⌝ }
     {
         if self.at < self.text.len() && self.text[self.at] == b'.' {
@@ -104,7 +105,7 @@ impl<'a> Reader<'a> {
         }
     }
 
-    fn exponent(&mut self) -> Result<(), TextFault>
+    pub(crate) fn exponent(&mut self) -> Result<(), TextFault>
         ensures { λ _. ⌜ Onward (now (self .entry)) (now (self .exit)) ⌝ }
     {
         if self.at < self.text.len() && matches!(self.text[self.at], b'e' | b'E') {
@@ -115,21 +116,12 @@ impl<'a> Reader<'a> {
         Ok(())
     }
 
-    fn minus(&mut self)
+    pub(crate) fn minus(&mut self)
         ensures { λ _. ⌜ Onward (now (self .entry)) (now (self .exit)) ⌝ }
     {
         if self.at < self.text.len() && self.text[self.at] == b'-' {
             self.at += 1;
         }
-    }
-
-    pub(crate) fn number(&mut self) -> Result<(), TextFault>
-        ensures { λ _. ⌜ Onward (now (self .entry)) (now (self .exit)) ⌝ }
-    {
-        self.minus();
-        self.whole_part()?;
-        self.fraction()?;
-        self.exponent()
     }
 
     fn hex_digit(&mut self) -> Result<(), TextFault>
