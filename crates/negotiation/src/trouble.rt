@@ -1,0 +1,66 @@
+// What a scanner can't follow in a task, and where.
+ghost use mathlib.Core.Path.{_≡_};
+ghost use Rattle.std.specs.Results.{Cases};
+ghost use Rattle.negotiation.specs.Troubles.{inForce, rejectionNumber, Noted};
+use table::Exception;
+use table::Head;
+use table::Place;
+use text::Placed;
+
+// The object that the scanner can't follow: its path, where it stands, and the exception in force there.
+#[derive(Clone, Copy)]
+pub struct Trouble {
+    pub path: Place,
+    pub offset: usize,
+    pub exception: Exception,
+}
+
+// How a task is rejected.
+#[derive(Clone, Copy, PartialEq, Eq)]
+pub enum Refusal {
+    // An action or a stream fails.
+    Fails,
+    // No stream is left to go on with.
+    NoStreamLeft,
+}
+
+// Why an action can't be met: the trouble that decides it.
+#[derive(Clone, Copy)]
+pub struct Rejection {
+    pub refusal: Refusal,
+    pub trouble: Trouble,
+}
+
+impl Rejection {
+    pub fn number(&self) -> u8
+        ensures { λ r. ⌜ r ≡ rejectionNumber (now (self .entry) .refusal) ⌝ }
+    {
+        match self.refusal {
+            Refusal::Fails => 31,
+            Refusal::NoStreamLeft => 32,
+        }
+    }
+}
+
+// The exception in force at an object: its own, else its parent's.
+pub fn in_force(own: Option<Placed<Exception>>, parent: Exception) -> Exception
+    ensures { λ r. ⌜ r ≡ inForce own parent ⌝ }
+{
+    match own {
+        Some(placed) => placed.value,
+        None => parent,
+    }
+}
+
+// A trouble at this object, where the test holds; it decides unless it is to be ignored.
+pub fn note(place: &Place, head: Head, exception: Exception, here: bool) -> Result<(), Trouble>
+    ensures { λ r. ⌜ Noted (now (place .entry)) head exception here r ⌝ }
+{
+    if !here {
+        return Ok(());
+    }
+    match exception {
+        Exception::Ignore => Ok(()),
+        _ => Err(Trouble { path: *place, offset: head.offset, exception }),
+    }
+}
