@@ -4,6 +4,7 @@ pub mod plan;
 pub mod settle;
 pub mod trouble;
 
+pub use inspect::default_plan;
 pub use plan::PLAN_ROOM;
 pub use plan::Plan;
 pub use settle::Verdict;
