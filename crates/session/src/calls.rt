@@ -1,5 +1,7 @@
 // The calls of a session. What it needs of memory is taken when it opens; no later call allocates.
 ghost use mathlib.Core.Path.{_≡_};
+ghost use Prim.Native.Nat.{_≤_};
+ghost use lib.ListN.{length};
 ghost use Rattle.std.specs.Results.{Cases};
 ghost use Rattle.std.specs.Vec.{made, refused};
 use crate::fault::NoMemory;
@@ -65,7 +67,8 @@ impl<S: Scanner> Session<S> {
 
     // Writes the kept plan as a task into the buffer: how many bytes. What lies beyond them stays untouched.
     pub fn reply(&self, buffer: &mut [u8]) -> Result<usize, OutputFault>
-        ensures { λ r. ⌜ refused r (λ _. now (buffer .exit) ≡ now (buffer .entry)) ⌝ }
+        ensures within { λ r. ⌜ made r (λ n. n ≤ length (now (buffer .exit))) ⌝ }
+        ensures refused { λ r. ⌜ refused r (λ _. now (buffer .exit) ≡ now (buffer .entry)) ⌝ }
     {
         let items = self.kept.items();
         let mut nothing: [u8; 0] = [];

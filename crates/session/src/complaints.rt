@@ -1,6 +1,8 @@
 // A refusal as a line for a person.
 ghost use mathlib.Core.Path.{_≡_};
-ghost use Rattle.std.specs.Vec.{refused};
+ghost use Prim.Native.Nat.{_≤_};
+ghost use lib.ListN.{length};
+ghost use Rattle.std.specs.Vec.{made, refused};
 use crate::fault::OutputFault;
 use crate::fault::SubmitFault;
 use crate::writer::Writer;
@@ -37,7 +39,8 @@ fn write_complaint(out: &mut Writer, fault: &SubmitFault) {
 
 // Writes the refusal's number and offset, and the object's path where a task was rejected, into the buffer: how many bytes.
 pub fn complaint(fault: &SubmitFault, buffer: &mut [u8]) -> Result<usize, OutputFault>
-    ensures { λ r. ⌜ refused r (λ _. now (buffer .exit) ≡ now (buffer .entry)) ⌝ }
+    ensures within { λ r. ⌜ made r (λ n. n ≤ length (now (buffer .exit))) ⌝ }
+    ensures refused { λ r. ⌜ refused r (λ _. now (buffer .exit) ≡ now (buffer .entry)) ⌝ }
 {
     let mut nothing: [u8; 0] = [];
     let mut measure = Writer { buffer: &mut nothing, len: 0 };
