@@ -39,7 +39,11 @@ fn negative(digits: &[u8]) -> Option<i32> {
     match size_of(digits, 2147483648) {
         None => None,
         Some(size) => {
-            if size == 0 { Some(0) } else { Some(-((size - 1) as i32) - 1) }
+            if size == 0 {
+                Some(0)
+            } else {
+                Some(-((size - 1) as i32) - 1)
+            }
         }
     }
 }

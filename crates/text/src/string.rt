@@ -49,14 +49,26 @@ fn step(mode: Mode, b: u8) -> (Option<u32>, Mode)
 {
     match mode {
         Mode::Plain => {
-            if b == b'\\' { (None, Mode::Backslash) } else { (Some(b as u32), Mode::Plain) }
+            if b == b'\\' {
+                (None, Mode::Backslash)
+            } else {
+                (Some(b as u32), Mode::Plain)
+            }
         }
         Mode::Backslash => {
-            if b == b'u' { (None, Mode::Hex(3, 0)) } else { (Some(plain_escape(b) as u32), Mode::Plain) }
+            if b == b'u' {
+                (None, Mode::Hex(3, 0))
+            } else {
+                (Some(plain_escape(b) as u32), Mode::Plain)
+            }
         }
         Mode::Hex(left, value) => {
             let n = (value % 4096) * 16 + hex_value(b);
-            if left == 0 { (Some(unit_of(n)), Mode::Plain) } else { (None, Mode::Hex(left - 1, n)) }
+            if left == 0 {
+                (Some(unit_of(n)), Mode::Plain)
+            } else {
+                (None, Mode::Hex(left - 1, n))
+            }
         }
     }
 }
