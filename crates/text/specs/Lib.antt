@@ -5,3 +5,4 @@ pub mod Tree
 pub mod Parts
 pub mod Ahead
 pub mod Strings
+pub mod Numbers
