@@ -1,45 +1,87 @@
 // Strings, numbers, literals and white space.
 ghost use mathlib.Core.Path.{_≡_};
-ghost use Prim.Native.Nat.{_+_, _<_, _≤_};
+ghost use mathlib.Core.Bool.{true, false};
+ghost use mathlib.Core.List.{List, _∷_};
+ghost use mathlib.Core.Logic.{_⊎_};
+ghost use Prim.Native.Nat.{ℕ, _+_, _<_, _≤_};
 ghost use lib.ListN.{length};
-ghost use Rattle.text.specs.Moves.{Onward};
+ghost use Rattle.text.specs.declared.fault.TextFault.the-variants.{Forbidden};
+ghost use Rattle.text.specs.Bytes.{white, digit};
+ghost use Rattle.text.specs.Machine.{Frame, Part, whole, fraction, exponent, value as a-value, first, digits, digit1, sign, after, chars, escape, hex, hexes, tail, tails, lead, event, number as a-number};
+ghost use Rattle.text.specs.Ahead.{Stack, Reads, ReadsTo, ReadsLetters, Onward, Passed, Inside, here, Skips, led};
 ghost use Rattle.std.specs.Vec.{made};
+ghost use Rattle.std.specs.Results.{Cases};
 use crate::fault::TextFault;
 use crate::reader::Reader;
 
 // What may follow the first byte of a character beyond ASCII: a byte from `low` to `high`, then `more` bytes.
 #[derive(Clone, Copy)]
-struct Lead {
+pub struct Lead {
     low: u8,
     high: u8,
     more: u8,
 }
 
-fn lead_of(b: u8) -> Option<Lead> {
+fn lead_of(b: u8) -> Option<Lead>
+    ensures { λ r. ⌜ ((k : List Frame) → lead b k ≡ led r k) ⌝ }
+{
     match b {
-        0xc2..=0xdf => Some(Lead { low: 0x80, high: 0xbf, more: 0 }),
-        0xe0 => Some(Lead { low: 0xa0, high: 0xbf, more: 1 }),
-        0xed => Some(Lead { low: 0x80, high: 0x9f, more: 1 }),
-        0xe1..=0xef => Some(Lead { low: 0x80, high: 0xbf, more: 1 }),
-        0xf0 => Some(Lead { low: 0x90, high: 0xbf, more: 2 }),
-        0xf1..=0xf3 => Some(Lead { low: 0x80, high: 0xbf, more: 2 }),
-        0xf4 => Some(Lead { low: 0x80, high: 0x8f, more: 2 }),
+        0xc2..=0xdf => Some(Lead {
+            low: 0x80,
+            high: 0xbf,
+            more: 0,
+        }),
+        0xe0 => Some(Lead {
+            low: 0xa0,
+            high: 0xbf,
+            more: 1,
+        }),
+        0xed => Some(Lead {
+            low: 0x80,
+            high: 0x9f,
+            more: 1,
+        }),
+        0xe1..=0xef => Some(Lead {
+            low: 0x80,
+            high: 0xbf,
+            more: 1,
+        }),
+        0xf0 => Some(Lead {
+            low: 0x90,
+            high: 0xbf,
+            more: 2,
+        }),
+        0xf1..=0xf3 => Some(Lead {
+            low: 0x80,
+            high: 0xbf,
+            more: 2,
+        }),
+        0xf4 => Some(Lead {
+            low: 0x80,
+            high: 0x8f,
+            more: 2,
+        }),
         _ => None,
     }
 }
 
-fn is_white(b: u8) -> bool {
+fn is_white(b: u8) -> bool
+    ensures { λ r. ⌜ r ≡ white b ⌝ }
+{
     b == b' ' || b == b'\t' || b == b'\n' || b == b'\r'
 }
 
 impl<'a> Reader<'a> {
     // The byte or the end that stands here is forbidden.
-    pub(crate) fn forbidden(&self) -> TextFault {
+    pub(crate) fn forbidden(&self) -> TextFault
+        ensures { λ r. ⌜ r ≡ Forbidden (now (self .entry) .at) ⌝ }
+    {
         TextFault::Forbidden(self.at)
     }
 
     pub(crate) fn blanks(&mut self)
-        ensures { λ _. ⌜ Onward (now (self .entry)) (now (self .exit)) ⌝ }
+        ensures runs { λ _. ⌜ ((f : Stack) → Skips f → Onward f f (now (self .entry)) (now (self .exit))) ⌝ }
+        ensures stops { λ _. ⌜ (Inside (now (self .exit)) → white (here (now (self .exit))) ≡ false) ⌝ }
     {
         while self.at < self.text.len() && is_white(self.text[self.at]) {
             self.at += 1;
@@ -48,7 +90,8 @@ impl<'a> Reader<'a> {
 
     // Passes the digits that stand here.
     fn digits(&mut self)
-        ensures { λ _. ⌜ Onward (now (self .entry)) (now (self .exit)) ⌝ }
+        ensures runs { λ _. ⌜ ((p : Part) → Onward (λ k. digits p ∷ k) (λ k. digits p ∷ k) (now (self .entry)) (now (self .exit))) ⌝ }
+        ensures stops { λ _. ⌜ (Inside (now (self .exit)) → digit (here (now (self .exit))) ≡ false) ⌝ }
     {
         while self.at < self.text.len() && self.text[self.at].is_ascii_digit() {
             self.at += 1;
@@ -56,7 +99,7 @@ impl<'a> Reader<'a> {
     }
 
     fn some_digits(&mut self) -> Result<(), TextFault>
-        ensures { λ _. ⌜ Onward (now (self .entry)) (now (self .exit)) ⌝ }
+        ensures { λ r. ⌜ ((p : Part) → Reads (λ k. digit1 p ∷ k) (λ k. after p ∷ k) (now (self .entry)) (now (self .exit)) r) ⌝ }
     {
         if self.at >= self.text.len() || !self.text[self.at].is_ascii_digit() {
             return Err(self.forbidden());
@@ -66,9 +109,8 @@ impl<'a> Reader<'a> {
         Ok(())
     }
 
-    pub(crate) fn whole_part(&mut self) -> Result<(), TextFault>
-        ensures onward { λ _. ⌜ Onward (now (self .entry)) (now (self .exit)) ⌝ }
-        ensures further { λ r. ⌜ made r (λ _. now (self .entry) .at < now (self .exit) .at) ⌝ }
+    fn whole_part(&mut self) -> Result<(), TextFault>
+        ensures { λ r. ⌜ Reads (λ k. first ∷ k) (λ k. after whole ∷ k) (now (self .entry)) (now (self .exit)) r ⌝ }
     {
         if self.at >= self.text.len() {
             return Err(self.forbidden());
@@ -87,8 +129,8 @@ impl<'a> Reader<'a> {
         }
     }
 
-    pub(crate) fn fraction(&mut self) -> Result<(), TextFault>
-        ensures { λ _. ⌜ Onward (now (self .entry)) (now (self .exit)) ⌝ }
+    fn fraction(&mut self) -> Result<(), TextFault>
+        ensures { λ r. ⌜ Reads (λ k. after whole ∷ k) (λ k. after fraction ∷ k) (now (self .entry)) (now (self .exit)) r ⌝ }
     {
         if self.at < self.text.len() && self.text[self.at] == b'.' {
             self.at += 1;
@@ -98,15 +140,15 @@ impl<'a> Reader<'a> {
     }
 
     fn sign(&mut self)
-        ensures { λ _. ⌜ Onward (now (self .entry)) (now (self .exit)) ⌝ }
+        ensures { λ _. ⌜ Onward (λ k. sign ∷ k) (λ k. digit1 exponent ∷ k) (now (self .entry)) (now (self .exit)) ⌝ }
     {
         if self.at < self.text.len() && matches!(self.text[self.at], b'+' | b'-') {
             self.at += 1;
         }
     }
 
-    pub(crate) fn exponent(&mut self) -> Result<(), TextFault>
-        ensures { λ _. ⌜ Onward (now (self .entry)) (now (self .exit)) ⌝ }
+    fn exponent(&mut self) -> Result<(), TextFault>
+        ensures { λ r. ⌜ Reads (λ k. after fraction ∷ k) (λ k. k) (now (self .entry)) (now (self .exit)) r ⌝ }
     {
         if self.at < self.text.len() && matches!(self.text[self.at], b'e' | b'E') {
             self.at += 1;
@@ -116,27 +158,44 @@ impl<'a> Reader<'a> {
         Ok(())
     }
 
+    // Passes the minus of the number that begins here, if it has one.
     pub(crate) fn minus(&mut self)
-        ensures { λ _. ⌜ Onward (now (self .entry)) (now (self .exit)) ⌝ }
+        requires inside { ⌜ Inside (now self) ⌝ }
+        requires is { ⌜ (here (now self) ≡ 45) ⊎ (digit (here (now self)) ≡ true) ⌝ }
+        ensures { λ _. ⌜ ((d : ℕ) → Passed (λ k. a-value d ∷ k) (λ k. first ∷ k) (event a-number (now (self .entry) .at)) (now (self .entry)) (now (self .exit))) ⌝ }
     {
-        if self.at < self.text.len() && self.text[self.at] == b'-' {
+        if self.text[self.at] == b'-' {
             self.at += 1;
         }
     }
 
-    fn hex_digit(&mut self) -> Result<(), TextFault>
-        ensures { λ _. ⌜ Onward (now (self .entry)) (now (self .exit)) ⌝ }
+    // The rest of a number, after its minus.
+    pub(crate) fn magnitude(&mut self) -> Result<(), TextFault>
+        ensures { λ r. ⌜ Reads (λ k. first ∷ k) (λ k. k) (now (self .entry)) (now (self .exit)) r ⌝ }
     {
-        if self.at < self.text.len() && self.text[self.at].is_ascii_hexdigit() {
-            self.at += 1;
-            return Ok(());
+        self.whole_part()?;
+        self.fraction()?;
+        self.exponent()
+    }
+
+    fn hex_digit(&mut self) -> Result<(), TextFault>
+        ensures { λ r. ⌜ ((n : ℕ) → Reads (λ k. hex n ∷ k) (λ k. hexes n k) (now (self .entry)) (now (self .exit)) r) ⌝ }
+    {
+        if self.at >= self.text.len() {
+            return Err(self.forbidden());
         }
-        Err(self.forbidden())
+        match self.text[self.at] {
+            b'0'..=b'9' | b'a'..=b'f' | b'A'..=b'F' => {
+                self.at += 1;
+                Ok(())
+            }
+            _ => Err(self.forbidden()),
+        }
     }
 
     // What follows a backslash.
     fn escape(&mut self) -> Result<(), TextFault>
-        ensures { λ _. ⌜ Onward (now (self .entry)) (now (self .exit)) ⌝ }
+        ensures { λ r. ⌜ Reads (λ k. escape ∷ k) (λ k. chars ∷ k) (now (self .entry)) (now (self .exit)) r ⌝ }
     {
         if self.at >= self.text.len() {
             return Err(self.forbidden());
@@ -159,7 +218,7 @@ impl<'a> Reader<'a> {
 
     // A byte of a character after its first.
     fn continuation(&mut self, low: u8, high: u8) -> Result<(), TextFault>
-        ensures { λ _. ⌜ Onward (now (self .entry)) (now (self .exit)) ⌝ }
+        ensures { λ r. ⌜ ((n : ℕ) → Reads (λ k. tail low high n ∷ k) (λ k. tails n k) (now (self .entry)) (now (self .exit)) r) ⌝ }
     {
         if self.at >= self.text.len() {
             return Err(self.forbidden());
@@ -173,18 +232,22 @@ impl<'a> Reader<'a> {
     }
 
     fn continuations(&mut self, more: u8) -> Result<(), TextFault>
-        ensures { λ _. ⌜ Onward (now (self .entry)) (now (self .exit)) ⌝ }
+        ensures { λ r. ⌜ Reads (λ k. tails more k) (λ k. chars ∷ k) (now (self .entry)) (now (self .exit)) r ⌝ }
     {
-        for _ in 0..more {
+        let mut left = more;
+        while left > 0 {
             self.continuation(0x80, 0xbf)?;
+            left -= 1;
         }
         Ok(())
     }
 
     // A character beyond ASCII, whose first byte b stands here.
     fn wide(&mut self, b: u8) -> Result<(), TextFault>
-        requires { ⌜ now self .at < length (now (now self .text)) ⌝ }
-        ensures onward { λ _. ⌜ Onward (now (self .entry)) (now (self .exit)) ⌝ }
+        requires inside { ⌜ Inside (now self) ⌝ }
+        requires is { ⌜ b ≡ here (now self) ⌝ }
+        requires high { ⌜ 127 < b ⌝ }
+        ensures reads { λ r. ⌜ Reads (λ k. chars ∷ k) (λ k. chars ∷ k) (now (self .entry)) (now (self .exit)) r ⌝ }
         ensures further { λ r. ⌜ made r (λ _. now (self .entry) .at < now (self .exit) .at) ⌝ }
     {
         match lead_of(b) {
@@ -199,8 +262,10 @@ impl<'a> Reader<'a> {
 
     // One character or escape of a string, whose first byte b stands here.
     fn character(&mut self, b: u8) -> Result<(), TextFault>
-        requires { ⌜ now self .at < length (now (now self .text)) ⌝ }
-        ensures onward { λ _. ⌜ Onward (now (self .entry)) (now (self .exit)) ⌝ }
+        requires inside { ⌜ Inside (now self) ⌝ }
+        requires is { ⌜ b ≡ here (now self) ⌝ }
+        requires goes { ⌜ (b ≡ 34 → ⊥) ⌝ }
+        ensures reads { λ r. ⌜ Reads (λ k. chars ∷ k) (λ k. chars ∷ k) (now (self .entry)) (now (self .exit)) r ⌝ }
         ensures further { λ r. ⌜ made r (λ _. now (self .entry) .at < now (self .exit) .at) ⌝ }
     {
         match b {
@@ -219,8 +284,7 @@ impl<'a> Reader<'a> {
 
     // The characters of a string up to its closing quote, which is passed too; where that quote stands.
     pub(crate) fn characters(&mut self) -> Result<usize, TextFault>
-        ensures onward { λ _. ⌜ Onward (now (self .entry)) (now (self .exit)) ⌝ }
-        ensures quote { λ r. ⌜ made r (λ q. (now (self .entry) .at ≤ q) × (q < now (self .exit) .at)) ⌝ }
+        ensures { λ r. ⌜ ReadsTo (λ k. chars ∷ k) (λ k. k) (now (self .entry)) (now (self .exit)) r ⌝ }
     {
         while self.at < self.text.len() {
             let b = self.text[self.at];
@@ -236,7 +300,7 @@ impl<'a> Reader<'a> {
 
     // The letters of a literal that are left.
     pub(crate) fn letters(&mut self, rest: &[u8]) -> Result<(), TextFault>
-        ensures { λ _. ⌜ Onward (now (self .entry)) (now (self .exit)) ⌝ }
+        ensures { λ r. ⌜ ReadsLetters (now (rest .entry)) (now (self .entry)) (now (self .exit)) r ⌝ }
     {
         for c in rest {
             if self.at >= self.text.len() || self.text[self.at] != *c {

@@ -1,6 +1,8 @@
 // What a string stands for: its escapes resolved.
 ghost use mathlib.Core.Path.{_≡_};
-ghost use Rattle.text.specs.Strings.{hexValue, plainEscape, unit, adds, goes};
+ghost use mathlib.Core.List.{map};
+ghost use Rattle.text.specs.declared.string.Mode.the-variants.{Plain};
+ghost use Rattle.text.specs.Strings.{hexValue, plainEscape, unit, adds, goes, units, stands, lowered, alike, matching, Tells};
 
 // How the characters of a string go on: as they stand, after a backslash, or among the digits of \u.
 #[derive(Clone, Copy)]
@@ -49,28 +51,49 @@ fn step(mode: Mode, b: u8) -> (Option<u32>, Mode)
 {
     match mode {
         Mode::Plain => {
-            if b == b'\\' { (None, Mode::Backslash) } else { (Some(b as u32), Mode::Plain) }
+            if b == b'\\' {
+                (None, Mode::Backslash)
+            } else {
+                (Some(b as u32), Mode::Plain)
+            }
         }
         Mode::Backslash => {
-            if b == b'u' { (None, Mode::Hex(3, 0)) } else { (Some(plain_escape(b) as u32), Mode::Plain) }
+            if b == b'u' {
+                (None, Mode::Hex(3, 0))
+            } else {
+                (Some(plain_escape(b) as u32), Mode::Plain)
+            }
         }
         Mode::Hex(left, value) => {
             let n = (value % 4096) * 16 + hex_value(b);
-            if left == 0 { (Some(unit_of(n)), Mode::Plain) } else { (None, Mode::Hex(left - 1, n)) }
+            if left == 0 {
+                (Some(unit_of(n)), Mode::Plain)
+            } else {
+                (None, Mode::Hex(left - 1, n))
+            }
         }
     }
 }
 
 // An ASCII letter in lower case; any other unit as it is.
-fn lower(u: u32) -> u32 {
+fn lower(u: u32) -> u32
+    ensures { λ r. ⌜ r ≡ lowered u ⌝ }
+{
     if 65 <= u && u <= 90 { u + 32 } else { u }
 }
 
-fn same_unit(u: u32, letter: u8, fold: bool) -> bool {
-    u == letter as u32 || fold && lower(u) == lower(letter as u32)
+fn same_unit(u: u32, letter: u8, fold: bool) -> bool
+    ensures { λ r. ⌜ r ≡ alike fold u letter ⌝ }
+{
+    if fold {
+        return lower(u) == lower(letter as u32);
+    }
+    u == letter as u32
 }
 
-fn compare(raw: &[u8], name: &[u8], fold: bool) -> bool {
+fn compare(raw: &[u8], name: &[u8], fold: bool) -> bool
+    ensures { λ r. ⌜ r ≡ matching fold (units Plain (now (raw .entry))) (now (name .entry)) ⌝ }
+{
     let mut mode = Mode::Plain;
     let mut matched: usize = 0;
     for b in raw {
@@ -90,11 +113,15 @@ fn compare(raw: &[u8], name: &[u8], fold: bool) -> bool {
 }
 
 // Whether the string with these bytes between its quotes stands for the letters of the name.
-pub fn spells(raw: &[u8], name: &[u8]) -> bool {
+pub fn spells(raw: &[u8], name: &[u8]) -> bool
+    ensures { λ r. ⌜ Tells r (stands (now (raw .entry)) ≡ now (name .entry)) ⌝ }
+{
     compare(raw, name, false)
 }
 
 // The same, ASCII letters in either case.
-pub fn spells_ignoring_case(raw: &[u8], name: &[u8]) -> bool {
+pub fn spells_ignoring_case(raw: &[u8], name: &[u8]) -> bool
+    ensures { λ r. ⌜ Tells r (map lowered (stands (now (raw .entry))) ≡ map lowered (now (name .entry))) ⌝ }
+{
     compare(raw, name, true)
 }

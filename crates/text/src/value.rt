@@ -1,12 +1,15 @@
 // Values, objects and arrays.
 ghost use mathlib.Core.Path.{_≡_};
-ghost use Prim.Native.Nat.{_+_, _<_, _≤_};
+ghost use mathlib.Core.Bool.{true, false};
+ghost use mathlib.Core.List.{List, _∷_};
+ghost use mathlib.Core.Logic.{_⊎_};
+ghost use Prim.Native.Nat.{ℕ, _+_, _<_, _≤_};
 ghost use lib.ListN.{length};
-ghost use Rattle.text.specs.Moves.{Onward, Opened};
-ghost use Rattle.std.specs.Vec.{made};
-ghost use Rattle.std.specs.Results.{Cases};
-ghost use Rattle.std.specs.declared.result.Result.the-variants.{Err};
 ghost use Rattle.text.specs.declared.fault.TextFault.the-variants.{TooLong};
+ghost use Rattle.text.specs.Bytes.{white, digit};
+ghost use Rattle.text.specs.Machine.{member as a-member, members, entries, begin-object, begin-array, outcome};
+ghost use Rattle.text.specs.Ahead.{Stack, Reads, Opens, Inside, here, ReadsString, ReadsNumber, ReadsToken, ReadsTokenHere, ReadsValue, ReadsMembers, ReadsEntries, ReadsName, ReadsMember, ReadsEntry, Finishes};
+ghost use Rattle.std.specs.Results.{Cases};
 use crate::fault::MAX_LENGTH;
 use crate::fault::MAX_LEVELS;
 use crate::fault::TextFault;
@@ -24,11 +27,24 @@ impl<'a> Reader<'a> {
         Reader { text, at: 0 }
     }
 
-    // Passes a bracket, if `levels` leaves a level to open.
-    fn open(&mut self, levels: u8) -> Result<(), TextFault>
-        requires { ⌜ now self .at < length (now (now self .text)) ⌝ }
-        ensures onward { λ _. ⌜ Onward (now (self .entry)) (now (self .exit)) ⌝ }
-        ensures opened { λ r. ⌜ made r (λ _. (0 < levels) × (now (self .entry) .at < now (self .exit) .at)) ⌝ }
+    // Passes the brace of an object, if `levels` leaves a level to open.
+    fn open_object(&mut self, levels: u8) -> Result<(), TextFault>
+        requires inside { ⌜ Inside (now self) ⌝ }
+        requires is { ⌜ here (now self) ≡ 123 ⌝ }
+        ensures { λ r. ⌜ Opens levels begin-object (λ d k. members true d ∷ k) (now (self .entry)) (now (self .exit)) r ⌝ }
+    {
+        if levels == 0 {
+            return Err(TextFault::TooDeep(self.at));
+        }
+        self.at += 1;
+        Ok(())
+    }
+
+    // Passes the bracket of an array, if `levels` leaves a level to open.
+    fn open_array(&mut self, levels: u8) -> Result<(), TextFault>
+        requires inside { ⌜ Inside (now self) ⌝ }
+        requires is { ⌜ here (now self) ≡ 91 ⌝ }
+        ensures { λ r. ⌜ Opens levels begin-array (λ d k. entries true d ∷ k) (now (self .entry)) (now (self .exit)) r ⌝ }
     {
         if levels == 0 {
             return Err(TextFault::TooDeep(self.at));
@@ -39,9 +55,9 @@ impl<'a> Reader<'a> {
 
     // A string whose quote stands here; what lies between its quotes.
     fn string(&mut self) -> Result<&'a [u8], TextFault>
-        requires { ⌜ now self .at < length (now (now self .text)) ⌝ }
-        ensures onward { λ _. ⌜ Onward (now (self .entry)) (now (self .exit)) ⌝ }
-        ensures further { λ r. ⌜ made r (λ _. now (self .entry) .at < now (self .exit) .at) ⌝ }
+        requires inside { ⌜ Inside (now self) ⌝ }
+        requires is { ⌜ here (now self) ≡ 34 ⌝ }
+        ensures { λ r. ⌜ ReadsString (now (self .entry)) (now (self .exit)) r ⌝ }
     {
         self.at += 1;
         let from = self.at;
@@ -49,58 +65,45 @@ impl<'a> Reader<'a> {
         Ok(&self.text[from..quote])
     }
 
-    // A number whose first character stands here.
+    // A number whose minus or first digit stands here; all of it.
     fn number(&mut self) -> Result<&'a [u8], TextFault>
-        requires { ⌜ now self .at < length (now (now self .text)) ⌝ }
-        ensures onward { λ _. ⌜ Onward (now (self .entry)) (now (self .exit)) ⌝ }
-        ensures further { λ r. ⌜ made r (λ _. now (self .entry) .at < now (self .exit) .at) ⌝ }
+        requires inside { ⌜ Inside (now self) ⌝ }
+        requires is { ⌜ (here (now self) ≡ 45) ⊎ (digit (here (now self)) ≡ true) ⌝ }
+        ensures { λ r. ⌜ ReadsNumber (now (self .entry)) (now (self .exit)) r ⌝ }
     {
         let from = self.at;
         self.minus();
-        self.whole_part()?;
-        self.fraction()?;
-        self.exponent()?;
+        self.magnitude()?;
         Ok(&self.text[from..self.at])
-    }
-
-    // A literal whose first letter stands here, and what is left of it.
-    fn literal(&mut self, rest: &[u8]) -> Result<(), TextFault>
-        requires { ⌜ now self .at < length (now (now self .text)) ⌝ }
-        ensures onward { λ _. ⌜ Onward (now (self .entry)) (now (self .exit)) ⌝ }
-        ensures further { λ r. ⌜ made r (λ _. now (self .entry) .at < now (self .exit) .at) ⌝ }
-    {
-        self.at += 1;
-        self.letters(rest)
     }
 
     // How the value begins that stands here: a scalar is read whole, of an object or an array the bracket alone.
     fn token_here(&mut self, levels: u8) -> Result<Token<'a>, TextFault>
-        requires { ⌜ now self .at < length (now (now self .text)) ⌝ }
-        ensures onward { λ _. ⌜ Onward (now (self .entry)) (now (self .exit)) ⌝ }
-        ensures further { λ r. ⌜ made r (λ _. now (self .entry) .at < now (self .exit) .at) ⌝ }
-        ensures opened { λ r. ⌜ made r (λ t. Opened levels t) ⌝ }
+        requires inside { ⌜ Inside (now self) ⌝ }
+        requires is { ⌜ white (here (now self)) ≡ false ⌝ }
+        ensures { λ r. ⌜ ReadsTokenHere levels (now (self .entry)) (now (self .exit)) r ⌝ }
     {
         match char::from(self.text[self.at]) {
             '{' => {
-                self.open(levels)?;
+                self.open_object(levels)?;
                 Ok(Token::Object)
             }
             '[' => {
-                self.open(levels)?;
+                self.open_array(levels)?;
                 Ok(Token::Array)
             }
             '"' => Ok(Token::String(self.string()?)),
             '-' | '0'..='9' => Ok(Token::Number(self.number()?)),
             't' => {
-                self.literal(b"rue")?;
+                self.letters(b"true")?;
                 Ok(Token::True)
             }
             'f' => {
-                self.literal(b"alse")?;
+                self.letters(b"false")?;
                 Ok(Token::False)
             }
             'n' => {
-                self.literal(b"ull")?;
+                self.letters(b"null")?;
                 Ok(Token::Null)
             }
             _ => Err(self.forbidden()),
@@ -109,9 +112,7 @@ impl<'a> Reader<'a> {
 
     // The first token of the next value. `levels` tells how many more levels may be opened.
     pub fn token(&mut self, levels: u8) -> Result<Placed<Token<'a>>, TextFault>
-        ensures onward { λ _. ⌜ Onward (now (self .entry)) (now (self .exit)) ⌝ }
-        ensures further { λ r. ⌜ made r (λ _. now (self .entry) .at < now (self .exit) .at) ⌝ }
-        ensures opened { λ r. ⌜ made r (λ t. Opened levels (t .value)) ⌝ }
+        ensures { λ r. ⌜ ReadsToken levels (now (self .entry)) (now (self .exit)) r ⌝ }
     {
         self.blanks();
         if self.at >= self.text.len() {
@@ -124,8 +125,7 @@ impl<'a> Reader<'a> {
 
     // A whole value; the token that it begins with.
     pub fn value(&mut self, levels: u8) -> Result<Placed<Token<'a>>, TextFault>
-        ensures onward { λ _. ⌜ Onward (now (self .entry)) (now (self .exit)) ⌝ }
-        ensures further { λ r. ⌜ made r (λ _. now (self .entry) .at < now (self .exit) .at) ⌝ }
+        ensures { λ r. ⌜ ReadsValue levels (now (self .entry)) (now (self .exit)) r ⌝ }
     {
         let token = self.token(levels)?;
         match token.value {
@@ -138,7 +138,7 @@ impl<'a> Reader<'a> {
 
     // The rest of an object, after its brace.
     fn object(&mut self, levels: u8) -> Result<(), TextFault>
-        ensures { λ _. ⌜ Onward (now (self .entry)) (now (self .exit)) ⌝ }
+        ensures { λ r. ⌜ ReadsMembers levels (now (self .entry)) (now (self .exit)) r ⌝ }
     {
         let mut first = true;
         while let Member::Named(_) = self.member(first)? {
@@ -150,7 +150,7 @@ impl<'a> Reader<'a> {
 
     // The rest of an array, after its bracket.
     fn array(&mut self, levels: u8) -> Result<(), TextFault>
-        ensures { λ _. ⌜ Onward (now (self .entry)) (now (self .exit)) ⌝ }
+        ensures { λ r. ⌜ ReadsEntries levels (now (self .entry)) (now (self .exit)) r ⌝ }
     {
         let mut first = true;
         while self.entry(first)? {
@@ -162,8 +162,7 @@ impl<'a> Reader<'a> {
 
     // In an object: the name of its next member, past the colon, or the object's end, past the brace.
     pub fn member(&mut self, first: bool) -> Result<Member<'a>, TextFault>
-        ensures onward { λ _. ⌜ Onward (now (self .entry)) (now (self .exit)) ⌝ }
-        ensures further { λ r. ⌜ made r (λ _. now (self .entry) .at < now (self .exit) .at) ⌝ }
+        ensures { λ r. ⌜ ReadsMember first (now (self .entry)) (now (self .exit)) r ⌝ }
     {
         self.blanks();
         if self.at >= self.text.len() {
@@ -174,17 +173,21 @@ impl<'a> Reader<'a> {
             self.at += 1;
             return Ok(Member::End(here));
         }
-        if !first {
-            self.comma()?;
+        if first {
+            return Ok(Member::Named(self.name()?));
         }
+        self.comma()?;
         Ok(Member::Named(self.name()?))
     }
 
+    // The comma between two members, where neither white space nor the object's end stands.
     fn comma(&mut self) -> Result<(), TextFault>
-        ensures onward { λ _. ⌜ Onward (now (self .entry)) (now (self .exit)) ⌝ }
-        ensures further { λ r. ⌜ made r (λ _. now (self .entry) .at < now (self .exit) .at) ⌝ }
+        requires inside { ⌜ Inside (now self) ⌝ }
+        requires is { ⌜ white (here (now self)) ≡ false ⌝ }
+        requires goes { ⌜ (here (now self) ≡ 125 → ⊥) ⌝ }
+        ensures { λ r. ⌜ ((d : ℕ) → Reads (λ k. members false d ∷ k) (λ k. a-member d ∷ k) (now (self .entry)) (now (self .exit)) r) ⌝ }
     {
-        if self.at < self.text.len() && self.text[self.at] == b',' {
+        if self.text[self.at] == b',' {
             self.at += 1;
             return Ok(());
         }
@@ -193,8 +196,7 @@ impl<'a> Reader<'a> {
 
     // A member's name and the colon after it.
     fn name(&mut self) -> Result<Placed<&'a [u8]>, TextFault>
-        ensures onward { λ _. ⌜ Onward (now (self .entry)) (now (self .exit)) ⌝ }
-        ensures further { λ r. ⌜ made r (λ _. now (self .entry) .at < now (self .exit) .at) ⌝ }
+        ensures { λ r. ⌜ ReadsName (λ d k. a-member d ∷ k) (now (self .entry)) (now (self .exit)) r ⌝ }
     {
         self.blanks();
         if self.at >= self.text.len() || self.text[self.at] != b'"' {
@@ -212,7 +214,7 @@ impl<'a> Reader<'a> {
 
     // In an array: whether an entry follows; the array's bracket is passed where none does.
     pub fn entry(&mut self, first: bool) -> Result<bool, TextFault>
-        ensures { λ _. ⌜ Onward (now (self .entry)) (now (self .exit)) ⌝ }
+        ensures { λ r. ⌜ ReadsEntry first (now (self .entry)) (now (self .exit)) r ⌝ }
     {
         self.blanks();
         if self.at >= self.text.len() {
@@ -222,15 +224,19 @@ impl<'a> Reader<'a> {
             self.at += 1;
             return Ok(false);
         }
-        if !first {
-            self.comma()?;
+        if first {
+            return Ok(true);
         }
-        Ok(true)
+        if self.text[self.at] == b',' {
+            self.at += 1;
+            return Ok(true);
+        }
+        Err(self.forbidden())
     }
 
     // Sees that nothing but white space is left.
     pub fn finish(&mut self) -> Result<(), TextFault>
-        ensures { λ _. ⌜ Onward (now (self .entry)) (now (self .exit)) ⌝ }
+        ensures { λ r. ⌜ Finishes (now (self .entry)) (now (self .exit)) r ⌝ }
     {
         self.blanks();
         if self.at < self.text.len() {
@@ -252,7 +258,7 @@ pub fn check_length(text: &[u8]) -> Result<(), TextFault>
 
 // Sees that a text is JSON, not too long and not too deep.
 pub fn check(text: &[u8]) -> Result<(), TextFault>
-    ensures { λ r. ⌜ (65536 < length (now (text .entry)) → r ≡ Err TooLong) ⌝ }
+    ensures { λ r. ⌜ r ≡ outcome (now (text .entry)) ⌝ }
 {
     check_length(text)?;
     let mut reader = Reader::new(text);

@@ -1,11 +1,13 @@
-use Prim.Native.Nat.{_-_, _≤_}
+use mathlib.Core.List.{_∷_}
+use Prim.Native.Nat.{_-_}
 use lib.ListN.{length}
 use denote.Ref.{now}
-use Rattle.text.specs.Moves.{Onward}
+use Rattle.text.specs.Machine.{Part, digits}
+use Rattle.text.specs.Ahead.{Onward}
 use Rattle.text.proofs.reader.Reader.digits.Given as given
 
 abbrev pub Inv-loop-self : given.InvT-loop-self
-Inv-loop-self l = Onward (l .entry .self) (l .self)
+Inv-loop-self l = (p : Part) → Onward (λ k. digits p ∷ k) (λ k. digits p ∷ k) (l .entry .self) (l .self)
 
 abbrev pub μ-loop-self : given.MeasureT-loop-self
 μ-loop-self l = length (now (l .self .text)) - l .self .at

@@ -1,0 +1,4 @@
+pub mod Steps
+pub mod Frames
+pub mod Extents
+pub mod Matching
