@@ -5,7 +5,7 @@ ghost use lib.ListN.{length};
 ghost use Rattle.std.specs.Vec.{made};
 ghost use Rattle.std.specs.declared.result.Result.the-variants.{Err};
 ghost use Rattle.text.specs.declared.fault.TextFault.the-variants.{TooLong};
-ghost use Rattle.text.specs.Moves.{Onward};
+ghost use Rattle.table.specs.Moves.{Onward};
 ghost use Rattle.table.specs.declared.fault.TableFault.the-variants.{Text};
 use crate::draft::Draft;
 use crate::fault::FormRule;
@@ -48,7 +48,7 @@ fn reserve(level: Level, tally: Tally) -> Tally
 // A string member of an object.
 fn string_member<'a>(reader: &mut Reader<'a>, levels: u8, draft: &mut Draft<'a>, key: Key) -> Result<(), TableFault>
     ensures level { λ _. ⌜ now (draft .exit) .level ≡ now (draft .entry) .level ⌝ }
-    ensures onward { λ _. ⌜ Onward (now (reader .entry)) (now (reader .exit)) ⌝ }
+    ensures onward { λ r. ⌜ made r (λ _. Onward (now (reader .entry)) (now (reader .exit))) ⌝ }
 {
     let token = reader.token(levels)?;
     let Token::String(raw) = token.value else {
@@ -61,7 +61,7 @@ fn string_member<'a>(reader: &mut Reader<'a>, levels: u8, draft: &mut Draft<'a>,
 fn member<'a>(reader: &mut Reader<'a>, place: &mut Place, table: &mut [Record], levels: u8, draft: &mut Draft<'a>, name: Placed<&[u8]>, tally: Tally) -> Result<Tally, TableFault>
     ensures place { λ _. ⌜ now (place .exit) ≡ now (place .entry) ⌝ }
     ensures level { λ _. ⌜ now (draft .exit) .level ≡ now (draft .entry) .level ⌝ }
-    ensures onward { λ _. ⌜ Onward (now (reader .entry)) (now (reader .exit)) ⌝ }
+    ensures onward { λ r. ⌜ made r (λ _. Onward (now (reader .entry)) (now (reader .exit))) ⌝ }
     ensures weight { λ r. ⌜ made r (λ t. tally .weight ≤ t .weight) ⌝ }
 {
     let Some(key) = Key::spelled(name.value) else {
@@ -94,7 +94,7 @@ fn member<'a>(reader: &mut Reader<'a>, place: &mut Place, table: &mut [Record], 
 fn array<'a>(reader: &mut Reader<'a>, place: &mut Place, table: &mut [Record], levels: u8, draft: &mut Draft<'a>, part: Level, tally: Tally) -> Result<Tally, TableFault>
     ensures place { λ _. ⌜ now (place .exit) ≡ now (place .entry) ⌝ }
     ensures level { λ _. ⌜ now (draft .exit) .level ≡ now (draft .entry) .level ⌝ }
-    ensures onward { λ _. ⌜ Onward (now (reader .entry)) (now (reader .exit)) ⌝ }
+    ensures onward { λ r. ⌜ made r (λ _. Onward (now (reader .entry)) (now (reader .exit))) ⌝ }
     ensures weight { λ r. ⌜ made r (λ t. tally .weight ≤ t .weight) ⌝ }
 {
     let token = reader.token(levels)?;
@@ -107,7 +107,7 @@ fn array<'a>(reader: &mut Reader<'a>, place: &mut Place, table: &mut [Record], l
 fn entries<'a>(reader: &mut Reader<'a>, place: &mut Place, table: &mut [Record], levels: u8, draft: &mut Draft<'a>, part: Level, tally: Tally) -> Result<Tally, TableFault>
     ensures place { λ _. ⌜ now (place .exit) ≡ now (place .entry) ⌝ }
     ensures level { λ _. ⌜ now (draft .exit) .level ≡ now (draft .entry) .level ⌝ }
-    ensures onward { λ _. ⌜ Onward (now (reader .entry)) (now (reader .exit)) ⌝ }
+    ensures onward { λ r. ⌜ made r (λ _. Onward (now (reader .entry)) (now (reader .exit))) ⌝ }
     ensures weight { λ r. ⌜ made r (λ t. tally .weight ≤ t .weight) ⌝ }
 {
     let mut tally = tally;
@@ -123,7 +123,7 @@ fn entries<'a>(reader: &mut Reader<'a>, place: &mut Place, table: &mut [Record],
 // One entry of an array of objects.
 fn entry<'a>(reader: &mut Reader<'a>, place: &mut Place, table: &mut [Record], levels: u8, level: Level, index: u32, tally: Tally) -> Result<Tally, TableFault>
     ensures place { λ _. ⌜ now (place .exit) ≡ now (place .entry) ⌝ }
-    ensures onward { λ _. ⌜ Onward (now (reader .entry)) (now (reader .exit)) ⌝ }
+    ensures onward { λ r. ⌜ made r (λ _. Onward (now (reader .entry)) (now (reader .exit))) ⌝ }
     ensures weight { λ r. ⌜ made r (λ t. tally .weight ≤ t .weight) ⌝ }
     ensures further { λ r. ⌜ made r (λ _. (now (reader .entry) .at < now (reader .exit) .at) × (index < 37)) ⌝ }
 {
@@ -140,7 +140,7 @@ fn entry<'a>(reader: &mut Reader<'a>, place: &mut Place, table: &mut [Record], l
 // An object, after its brace; the place record is inside it meanwhile.
 fn object<'a>(reader: &mut Reader<'a>, place: &mut Place, table: &mut [Record], levels: u8, level: Level, index: u32, offset: usize, tally: Tally) -> Result<Tally, TableFault>
     ensures place { λ _. ⌜ now (place .exit) ≡ now (place .entry) ⌝ }
-    ensures onward { λ _. ⌜ Onward (now (reader .entry)) (now (reader .exit)) ⌝ }
+    ensures onward { λ r. ⌜ made r (λ _. Onward (now (reader .entry)) (now (reader .exit))) ⌝ }
     ensures weight { λ r. ⌜ made r (λ t. tally .weight ≤ t .weight) ⌝ }
 {
     let outer = place.enter(level, index);
@@ -153,7 +153,7 @@ fn object<'a>(reader: &mut Reader<'a>, place: &mut Place, table: &mut [Record], 
 fn members<'a>(reader: &mut Reader<'a>, place: &mut Place, table: &mut [Record], levels: u8, draft: Draft<'a>, before: usize, tally: Tally) -> Result<Tally, TableFault>
     requires { ⌜ before ≤ tally .weight ⌝ }
     ensures place { λ _. ⌜ now (place .exit) ≡ now (place .entry) ⌝ }
-    ensures onward { λ _. ⌜ Onward (now (reader .entry)) (now (reader .exit)) ⌝ }
+    ensures onward { λ r. ⌜ made r (λ _. Onward (now (reader .entry)) (now (reader .exit))) ⌝ }
     ensures weight { λ r. ⌜ made r (λ t. tally .weight ≤ t .weight) ⌝ }
 {
     let mut draft = draft;

@@ -3,7 +3,7 @@ use mathlib.Core.Path.{_≡_}
 use Prim.Native.Nat.{_-_, _+_, _*_, _≤_}
 use lib.ListN.{length}
 use denote.Ref.{now}
-use Rattle.text.specs.Moves.{Onward}
+use Rattle.table.specs.Moves.{Onward}
 use Rattle.table.specs.Levels.{levelCode}
 use Rattle.table.proofs.read.+array+entries+entry+member+members+object.Given as given
 
