@@ -2,7 +2,9 @@
 ghost use mathlib.Core.Path.{_≡_};
 ghost use Prim.Native.Nat.{_≤_};
 ghost use lib.ListN.{length};
-ghost use Rattle.std.specs.Results.{Cases};
+ghost use mathlib.Core.Logic.{_⊎_};
+ghost use Rattle.session.specs.Held.{Holds};
+ghost use Rattle.session.specs.Unmoved.{Unmoved};
 ghost use Rattle.std.specs.Vec.{made, refused};
 use crate::fault::NoMemory;
 use crate::fault::OutputFault;
@@ -26,7 +28,9 @@ use table::read_task;
 impl<S: Scanner> Session<S> {
     // Takes a scanner in any state and gives it the plan of the default stream.
     pub fn open(heap: Global, scanner: S) -> Result<Session<S>, NoMemory<S>>
-        ensures { λ r. ⌜ Cases r (λ x. S·Scanner .catalogue (x .scanner) ≡ S·Scanner .catalogue scanner) (λ e. e .scanner ≡ scanner) ⌝ }
+        ensures same { λ r. ⌜ made r (λ x. S·Scanner .catalogue (x .scanner) ≡ S·Scanner .catalogue scanner) ⌝ }
+        ensures holds { λ r. ⌜ made r (λ x. Holds (S·Scanner .catalogue scanner) (S·Scanner .state (x .scanner)) (x .kept)) ⌝ }
+        ensures back { λ r. ⌜ refused r (λ e. e .scanner ≡ scanner) ⌝ }
     {
         let Ok(mut kept) = Plan::new(heap) else {
             return Err(NoMemory { scanner });
@@ -53,8 +57,8 @@ impl<S: Scanner> Session<S> {
     // Submits a task. An accepted one gives the scanner the plan of its last configure action; without such an action nothing changes.
     pub fn submit(&mut self, text: &[u8], table: &mut [Record]) -> Result<(), SubmitFault>
         ensures same { λ _. ⌜ S·Scanner .catalogue (now (self .exit) .scanner) ≡ S·Scanner .catalogue (now (self .entry) .scanner) ⌝ }
-        ensures refused { λ r. ⌜ refused r (λ _. now (self .exit) .scanner ≡ now (self .entry) .scanner) ⌝ }
-        ensures kept { λ r. ⌜ refused r (λ _. now (self .exit) .kept ≡ now (self .entry) .kept) ⌝ }
+        ensures holds { λ r. ⌜ made r (λ _. (Unmoved (now (self .entry)) (now (self .exit))) ⊎ (Holds (S·Scanner .catalogue (now (self .entry) .scanner)) (S·Scanner .state (now (self .exit) .scanner)) (now (self .exit) .kept))) ⌝ }
+        ensures refused { λ r. ⌜ refused r (λ _. Unmoved (now (self .entry)) (now (self .exit))) ⌝ }
     {
         let used = read_task(text, &mut self.place, table)?;
         let verdict = negotiate(&self.scanner, &mut self.place, &mut self.spare, &table[0..used])?;

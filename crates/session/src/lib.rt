@@ -1,10 +1,10 @@
 // A session: a scanner in use, and the plan that it was given last.
-pub mod calls;
-pub mod complaints;
-pub mod fault;
-pub mod held;
-pub mod reply;
-pub mod writer;
+mod calls;
+mod complaints;
+mod fault;
+mod held;
+mod reply;
+mod writer;
 
 pub use complaints::complaint;
 pub use fault::NoMemory;

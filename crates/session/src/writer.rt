@@ -1,26 +1,26 @@
 // A writer into a lent buffer. It writes where there is room and counts on, so that it can measure too.
 #[derive(Drop)]
-pub struct Writer<'a> {
-    pub buffer: &'a mut [u8],
-    pub len: usize,
+pub(crate) struct Writer<'a> {
+    pub(crate) buffer: &'a mut [u8],
+    pub(crate) len: usize,
 }
 
 impl<'a> Writer<'a> {
-    pub fn byte(&mut self, b: u8) {
+    pub(crate) fn byte(&mut self, b: u8) {
         if self.len < self.buffer.len() {
             self.buffer[self.len] = b;
         }
         self.len = self.len.saturating_add(1);
     }
 
-    pub fn text(&mut self, bytes: &[u8]) {
+    pub(crate) fn text(&mut self, bytes: &[u8]) {
         for b in bytes {
             self.byte(*b);
         }
     }
 
     // A number in decimal.
-    pub fn number(&mut self, n: u64) {
+    pub(crate) fn number(&mut self, n: u64) {
         if n >= 10 {
             self.number(n / 10);
         }
@@ -28,7 +28,7 @@ impl<'a> Writer<'a> {
     }
 
     // A number with sign in decimal.
-    pub fn signed(&mut self, n: i32) {
+    pub(crate) fn signed(&mut self, n: i32) {
         if n >= 0 {
             self.number(n as u64);
         } else {
