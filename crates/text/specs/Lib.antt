@@ -6,3 +6,5 @@ pub mod Parts
 pub mod Ahead
 pub mod Strings
 pub mod Numbers
+pub mod Grammar
+pub mod Judged

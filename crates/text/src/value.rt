@@ -9,7 +9,10 @@ ghost use Rattle.text.specs.declared.fault.TextFault.the-variants.{TooLong};
 ghost use Rattle.text.specs.Bytes.{white, digit};
 ghost use Rattle.text.specs.Machine.{member as a-member, members, entries, begin-object, begin-array, outcome};
 ghost use Rattle.text.specs.Ahead.{Stack, Reads, Opens, Inside, here, ReadsString, ReadsNumber, ReadsToken, ReadsTokenHere, ReadsValue, ReadsMembers, ReadsEntries, ReadsName, ReadsMember, ReadsEntry, Finishes};
+ghost use Rattle.text.specs.Grammar.{Text};
+ghost use Rattle.text.specs.Judged.{Judged};
 ghost use Rattle.std.specs.Results.{Cases};
+ghost use Rattle.std.specs.declared.result.Result.the-variants.{Ok};
 use crate::fault::MAX_LENGTH;
 use crate::fault::MAX_LEVELS;
 use crate::fault::TextFault;
@@ -258,7 +261,9 @@ pub fn check_length(text: &[u8]) -> Result<(), TextFault>
 
 // Sees that a text is JSON, not too long and not too deep.
 pub fn check(text: &[u8]) -> Result<(), TextFault>
-    ensures { λ r. ⌜ r ≡ outcome (now (text .entry)) ⌝ }
+    ensures exact { λ r. ⌜ r ≡ outcome (now (text .entry)) ⌝ }
+    ensures judged { λ r. ⌜ Judged (now (text .entry)) r ⌝ }
+    ensures read { λ r. ⌜ (length (now (text .entry)) ≤ 65536 → Text 24 (now (text .entry)) → r ≡ Ok tt) ⌝ }
 {
     check_length(text)?;
     let mut reader = Reader::new(text);
