@@ -1,2 +1,3 @@
 pub mod Codes
 pub mod Same
+pub mod Numbers

@@ -3,6 +3,7 @@ pub mod kinds;
 pub mod letters;
 pub mod lists;
 pub mod lookup;
+pub mod numbers;
 
 pub use kinds::Attribute;
 pub use kinds::AttributePartialEq;

@@ -1,2 +1,6 @@
 pub mod Search
 pub mod Flatbed
+pub mod Faults
+pub mod Ranges
+pub mod Values
+pub mod Bans

@@ -1,7 +1,7 @@
 -- The first entry of a list that meets a test.
 use mathlib.Core.Path.{_≡_}
-use mathlib.Core.Bool.{Bool, true, false}
-use mathlib.Core.List.{List}
+use mathlib.Core.Bool.{Bool, true, false, _||_}
+use mathlib.Core.List.{List, [], _∷_}
 use Prim.Native.Nat.{ℕ, _<_}
 use lib.ListN.{length, getD}
 use Rattle.std.specs.declared.option.Option.{Option}
@@ -15,3 +15,8 @@ NoneBefore {X} test xs n = (k : ℕ) (d : X) → k < n → test (getD xs k d) �
 abbrev pub FirstOf : {X : Type 0} → (X → Bool) → List X → Option ℕ → Type 0
 FirstOf {X} test xs found =
     Cases found (NoneBefore test xs (length xs)) (λ i. (i < length xs) × ((d : X) → test (getD xs i d) ≡ true) × NoneBefore test xs i)
+
+-- some entry meets the test
+abbrev pub anyOf : {X : Type 0} → (X → Bool) → List X → Bool
+anyOf test [] = false
+anyOf test (x ∷ xs) = test x || anyOf test xs

@@ -1,7 +1,7 @@
 // The one search: the first entry of a list that meets a test.
 ghost use mathlib.Core.Path.{_≡_};
 ghost use mathlib.Core.Bool.{Bool};
-ghost use Rattle.scanners.specs.Search.{FirstOf};
+ghost use Rattle.scanners.specs.Search.{FirstOf, anyOf};
 
 // A test that an entry meets or fails.
 pub trait Test<T> {
@@ -21,4 +21,11 @@ pub fn first<T, P: Test<T>>(entries: &[T], test: &P) -> Option<usize>
         }
     }
     None
+}
+
+// Whether some entry meets the test.
+pub fn any<T, P: Test<T>>(entries: &[T], test: &P) -> bool
+    ensures { λ r. ⌜ r ≡ anyOf (P·Test .holds (now (test .entry))) (now (entries .entry)) ⌝ }
+{
+    first(entries, test).is_some()
 }
