@@ -1,2 +1,4 @@
 pub mod Codes
 pub mod Same
+pub mod Names
+pub mod Vocabulary
