@@ -3,6 +3,10 @@ ghost use mathlib.Core.Path.{_≡_};
 ghost use Prim.Native.Nat.{_+_, _<_};
 ghost use lib.ListN.{length};
 ghost use Rattle.std.specs.Options.{Cases};
+ghost use Rattle.text.specs.Strings.{stands};
+ghost use Rattle.names.specs.Codes.{sourceCode, formatCode, attributeCode, wordCode};
+ghost use Rattle.names.specs.Names.{nameAt, namesOf, place};
+ghost use Rattle.names.specs.Vocabulary.{sourceName, sourceSpelled, formatName, formatSpelled, attributeName, attributeSpelled, wordName, wordSpelled, Apart, Vocabulary};
 use crate::kinds::Attribute;
 use crate::kinds::PixelFormat;
 use crate::kinds::Source;
@@ -16,18 +20,21 @@ use crate::lists::WORDS;
 use text::spells;
 
 // The letters of name i; none where the table has no such name.
-pub fn name_at<'a>(letters: &'a [u8], starts: &[u16], i: usize) -> &'a [u8] {
+pub fn name_at<'a>(letters: &'a [u8], starts: &[u16], i: usize) -> &'a [u8]
+    ensures { λ r. ⌜ now r ≡ nameAt (now (letters .entry)) (now (starts .entry)) i ⌝ }
+{
     if i >= starts.len() || i + 1 >= starts.len() {
         return &letters[0..0];
     }
     let from = starts[i] as usize;
-    let to = starts[i + 1] as usize;
-    if from <= to && to <= letters.len() { &letters[from..to] } else { &letters[0..0] }
+    let to = (starts[i + 1] as usize).min(letters.len());
+    if from < to { &letters[from..to] } else { &letters[0..0] }
 }
 
 // Which name a string spells, given by the bytes between its quotes: the first that it stands for.
 pub fn position(letters: &[u8], starts: &[u16], raw: &[u8]) -> Option<usize>
-    ensures { λ r. ⌜ Cases r (Unit {0}) (λ i. i + 1 < length (now (starts .entry))) ⌝ }
+    ensures value { λ r. ⌜ r ≡ place (stands (now (raw .entry))) (namesOf (now (letters .entry)) (now (starts .entry))) ⌝ }
+    ensures bound { λ r. ⌜ Cases r (Unit {0}) (λ i. i + 1 < length (now (starts .entry))) ⌝ }
 {
     for next in 1..starts.len() {
         if spells(raw, name_at(letters, starts, next - 1)) {
@@ -38,8 +45,17 @@ pub fn position(letters: &[u8], starts: &[u16], raw: &[u8]) -> Option<usize>
 }
 
 impl Source {
+    // Its place in the list.
+    fn code(self) -> usize
+        ensures { λ r. ⌜ r ≡ sourceCode self ⌝ }
+    {
+        self as usize
+    }
+
     // The source that a string names.
-    pub fn spelled(raw: &[u8]) -> Option<Source> {
+    pub fn spelled(raw: &[u8]) -> Option<Source>
+        ensures { λ r. ⌜ r ≡ sourceSpelled (stands (now (raw .entry))) ⌝ }
+    {
         match position(&LETTERS, &STARTS[0..7], raw) {
             Some(i) => Some(SOURCES[i]),
             None => None,
@@ -47,46 +63,89 @@ impl Source {
     }
 
     // Its name in a task.
-    pub fn name(self) -> &'static [u8] {
-        name_at(&LETTERS, &STARTS[0..7], self as usize)
+    pub fn name(self) -> &'static [u8]
+        ensures { λ r. ⌜ now r ≡ sourceName self ⌝ }
+    {
+        name_at(&LETTERS, &STARTS[0..7], self.code())
     }
 }
 
 impl PixelFormat {
-    pub fn spelled(raw: &[u8]) -> Option<PixelFormat> {
+    // Its place in the list.
+    fn code(self) -> usize
+        ensures { λ r. ⌜ r ≡ formatCode self ⌝ }
+    {
+        self as usize
+    }
+
+    pub fn spelled(raw: &[u8]) -> Option<PixelFormat>
+        ensures { λ r. ⌜ r ≡ formatSpelled (stands (now (raw .entry))) ⌝ }
+    {
         match position(&LETTERS, &STARTS[6..12], raw) {
             Some(i) => Some(PIXEL_FORMATS[i]),
             None => None,
         }
     }
 
-    pub fn name(self) -> &'static [u8] {
-        name_at(&LETTERS, &STARTS[6..12], self as usize)
+    pub fn name(self) -> &'static [u8]
+        ensures { λ r. ⌜ now r ≡ formatName self ⌝ }
+    {
+        name_at(&LETTERS, &STARTS[6..12], self.code())
     }
 }
 
 impl Attribute {
-    pub fn spelled(raw: &[u8]) -> Option<Attribute> {
+    // Its place in the list.
+    fn code(self) -> usize
+        ensures { λ r. ⌜ r ≡ attributeCode self ⌝ }
+    {
+        self as usize
+    }
+
+    pub fn spelled(raw: &[u8]) -> Option<Attribute>
+        ensures { λ r. ⌜ r ≡ attributeSpelled (stands (now (raw .entry))) ⌝ }
+    {
         match position(&LETTERS, &STARTS[11..49], raw) {
             Some(i) => Some(ATTRIBUTES[i]),
             None => None,
         }
     }
 
-    pub fn name(self) -> &'static [u8] {
-        name_at(&LETTERS, &STARTS[11..49], self as usize)
+    pub fn name(self) -> &'static [u8]
+        ensures { λ r. ⌜ now r ≡ attributeName self ⌝ }
+    {
+        name_at(&LETTERS, &STARTS[11..49], self.code())
     }
 }
 
 impl Word {
-    pub fn spelled(raw: &[u8]) -> Option<Word> {
+    // Its place in the list.
+    fn code(self) -> usize
+        ensures { λ r. ⌜ r ≡ wordCode self ⌝ }
+    {
+        self as usize
+    }
+
+    pub fn spelled(raw: &[u8]) -> Option<Word>
+        ensures { λ r. ⌜ r ≡ wordSpelled (stands (now (raw .entry))) ⌝ }
+    {
         match position(&LETTERS, &STARTS[48..65], raw) {
             Some(i) => Some(WORDS[i]),
             None => None,
         }
     }
 
-    pub fn name(self) -> &'static [u8] {
-        name_at(&LETTERS, &STARTS[48..65], self as usize)
+    pub fn name(self) -> &'static [u8]
+        ensures { λ r. ⌜ now r ≡ wordName self ⌝ }
+    {
+        name_at(&LETTERS, &STARTS[48..65], self.code())
     }
+}
+
+// In each list the names are distinct, and a string names at most what it is spelled as.
+pub fn vocabulary_stands() -> u8
+    ensures apart { λ _. ⌜ Apart ⌝ }
+    ensures exact { λ _. ⌜ Vocabulary ⌝ }
+{
+    0
 }
