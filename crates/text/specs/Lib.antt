@@ -8,3 +8,5 @@ pub mod Strings
 pub mod Numbers
 pub mod Grammar
 pub mod Judged
+pub mod Canonical
+pub mod ReadsBack
