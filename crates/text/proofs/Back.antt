@@ -22,7 +22,7 @@ use Rattle.text.specs.declared.string.Mode.the-variants.{Plain as Unescaped}
 use Rattle.text.specs.Bytes.{digit, between}
 use Rattle.text.specs.Machine.{Frame, Kind, Tape, value, literal, chars, good, fault, event, ending, step, over, run, tape, begin-object, end-object, begin-array, end-array, name, string, number}
 use Rattle.text.specs.Tree.{Json, Members, Entries, events, member-events, entry-events}
-use Rattle.text.specs.Parts.{extent, scalarLength, stringPart, numberPart}
+use Rattle.text.specs.Parts.{extent, valueLength, stringPart, numberPart}
 use Rattle.text.specs.Strings.{units, paired, joined, stands, high, low}
 use Rattle.text.specs.Numbers.{decimal as read-on, magnitude, upTo, negated, positive, integerOf}
 use Rattle.text.specs.Canonical.{Plain, Fields, Items, word, integer, object-of, array-of, no-field, a-field, no-item, an-item, writtenOn, fieldsOn, itemsOn, written, past, pastValue, pastFields, pastItems, placed, placedFields, placedItems, letter, Letters, Within32, Writable, numberEnds}
@@ -50,7 +50,7 @@ unfolding run step
 word-run cs r i d k s = ap (event string i) (letters-run cs (suc i) k (34 ∷ r) s)
 
 word-part : (cs r : List ℕ) → Letters cs → stringPart (34 ∷ (cs ++ 34 ∷ r)) ≡ cs
-unfolding stringPart scalarLength
+unfolding stringPart valueLength
 word-part cs r s =
     let t = 34 ∷ (cs ++ 34 ∷ r) in
     let e : suc (past cs 1) ≡ 0 + extent t (value 0 ∷ literal [] ∷ []) = extent-run t 0 (suc (past cs 1)) (value 0 ∷ literal [] ∷ []) (ap ending (word-run cs r 0 0 (literal [] ∷ []) s) ∙ stop-run r (suc (past cs 1))) in
@@ -75,7 +75,7 @@ pub words-back : Words-back
 words-back cs r s = (word-part cs r s, ap paired (letter-units cs s) ∙ letter-paired cs s)
 
 integer-part : (z : ℤ) (r : List ℕ) → Within32 z → numberEnds r ≡ true → numberPart (signed z ++ r) ≡ signed z
-unfolding numberPart scalarLength
+unfolding numberPart valueLength
 integer-part z r h c =
     let t = signed z ++ r in
     let e : past (signed z) 0 ≡ 0 + extent t (value 0 ∷ literal [] ∷ []) = extent-run t 0 (past (signed z) 0) (value 0 ∷ literal [] ∷ []) (ap ending (integer-run z 0 0 (literal [] ∷ []) r h c) ∙ stop-run r (past (signed z) 0)) in

@@ -19,9 +19,10 @@ use Rattle.text.specs.Tree.{Json, Members, Entries, events, member-events, ent
 use Rattle.text.specs.Canonical.{Plain, Fields, Items, word, integer, object-of, array-of, no-field, a-field, no-item, an-item, writtenOn, fieldsOn, itemsOn, written, past, pastValue, pastFields, pastItems, placed, placedFields, placedItems, letter, Letters, Within32, Writable, WritableFields, WritableItems, numberEnds}
 use Rattle.text.specs.ReadsBack.{Reads-back}
 use Rattle.text.proofs.Steps.{run-go, run-says, run-like}
-use Rattle.text.proofs.Frames.{quiet}
+use Rattle.text.proofs.Frames.{same-ending}
 use Rattle.text.proofs.Complete.{after-ends, digits-other, first-more, value-more, first-byte}
 use Rattle.text.proofs.Judging.{short}
+use Rattle.text.specs.Limits.{mostLevels}
 
 letter-step : (b : ℕ) (k : List Frame) → letter b ≡ true → step (chars ∷ k) b ≡ go (chars ∷ k)
 unfolding step
@@ -139,9 +140,9 @@ mutual
   items-run true (an-item v vs) d i k r s = first-item v d d i k _ (s .0) ∙ value-run v d i (entries false d ∷ k) _ (s .0) (items-end vs r) ∙ ap (events (placed v i)) (items-run false vs d _ k r (s .1))
   items-run false (an-item v vs) d i k r s = value-run v d (suc i) (entries false d ∷ k) _ (s .0) (items-end vs r) ∙ ap (events (placed v (suc i))) (items-run false vs d _ k r (s .1))
 
-pub written-tape : (v : Plain) → Writable 24 v → tape (written v) ≡ events (placed v 0) good
+pub written-tape : (v : Plain) → Writable mostLevels v → tape (written v) ≡ events (placed v 0) good
 unfolding tape over run
-written-tape v s = value-run v 24 0 [] [] s refl
+written-tape v s = value-run v mostLevels 0 [] [] s refl
 
 pub reads-back : Reads-back
-reads-back v s = (λ h. short (written v) h ∙ ap ending (written-tape v s) ∙ quiet (placed v 0) good, written-tape v s)
+reads-back v s = (λ h. short (written v) h ∙ ap ending (written-tape v s) ∙ same-ending (placed v 0) good, written-tape v s)

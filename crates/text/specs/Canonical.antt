@@ -96,6 +96,7 @@ unfoldable mutual
 abbrev pub letter : ℕ → Bool
 letter b = leb 32 b && leb b 126 && not (eqb b 34) && not (eqb b 92)
 
+-- such characters only
 abbrev pub Letters : List ℕ → Type 0
 Letters [] = Unit {0}
 Letters (c ∷ cs) = (letter c ≡ true) × Letters cs

@@ -14,10 +14,11 @@ use Rattle.text.specs.Parts.{stringPart, numberPart}
 use Rattle.text.specs.Strings.{stands}
 use Rattle.text.specs.Numbers.{integerOf}
 use Rattle.text.specs.Canonical.{Plain, Fields, Items, word, integer, object-of, array-of, no-field, a-field, no-item, an-item, writtenOn, fieldsOn, itemsOn, written, past, pastValue, pastFields, pastItems, placed, Letters, Within32, Writable, numberEnds}
+use Rattle.text.specs.Limits.{mostBytes, mostLevels}
 
 -- a canonical text within the limits is read, and its tape has just the tokens of its value, each at its offset
 abbrev pub Reads-back : Type 0
-Reads-back = (v : Plain) → Writable 24 v → (length (written v) ≤ 65536 → outcome (written v) ≡ Ok tt) × (tape (written v) ≡ events (placed v 0) good)
+Reads-back = (v : Plain) → Writable mostLevels v → (length (written v) ≤ mostBytes → outcome (written v) ≡ Ok tt) × (tape (written v) ≡ events (placed v 0) good)
 
 -- a string of letters is found again between its quotes, and stands for its letters
 abbrev pub Words-back : Type 0
@@ -59,7 +60,7 @@ unfoldable mutual
 
 -- whatever is folded over the events of a canonical text is folded over its value, in states of type S
 abbrev pub Folds-back : Type 0 → Type 0
-Folds-back S = (on : Folding S) (s : S) (v : Plain) → Writable 24 v → foldTape on (written v) s (tape (written v)) ≡ foldValue on v [] 0 s
+Folds-back S = (on : Folding S) (s : S) (v : Plain) → Writable mostLevels v → foldTape on (written v) s (tape (written v)) ≡ foldValue on v [] 0 s
 
 -- all that an event tells; with a list of these as its state a fold can keep them all, so that any other follows from it
 pub record Visit : Type 0 where
