@@ -13,6 +13,7 @@ use Rattle.text.specs.declared.fault.TextFault.the-variants.{Forbidden}
 use Rattle.text.specs.Bytes.{between, white, digit, hexDigit, exponentMark, signMark, shortEscape}
 use Rattle.text.specs.Machine.{Kind, Frame, Part, Step, whole, fraction, exponent, value, first, digits, digit1, sign, after, chars, escape, hex, tail, literal, member, colon, members, entries, go, says, forbidden, good, fault, ending, tails, hexes, letters, step, over, ends, run, begin-object, end-object, begin-array, end-array, name, string, number, literal-true, literal-false, literal-null}
 use Rattle.text.specs.Grammar.{Ws, ws-none, ws-more, Mark, mark, Digits, digits-none, digits-more, Digits1, digits1, Minus, minus-none, minus, Int, int-zero, int-more, Frac, frac-none, frac, Sign, sign-none, sign as sign-some, Exp, exp-none, exp, Number, number as a-number, Hexes, hexes-none, hexes-more, Tails, tails-none, tails-more, Wide, wide-2, wide-e0, wide-e1, wide-ed, wide-ee, wide-f0, wide-f1, wide-f4, Char, ascii, wide, escaped, escaped-hex, Chars, chars-none, chars-more, Str, str, Value, is-false, is-null, is-true, is-object, is-array, is-number, is-string, Object, object-none, object-some, Members, members-end, members-more, Member, member as a-member, Array, array-none, array-some, Entries, entries-end, entries-more, Text, text}
+use Rattle.text.specs.Canonical.{numberEnds}
 use Rattle.text.proofs.Steps.{run-like, run-go, run-says, run-forbidden}
 use Rattle.text.proofs.Stacks.{Rest, rest-none, rest-object, rest-array, Accepts, accepts-go, accepts-says}
 
@@ -50,44 +51,39 @@ array-blank : (d : ℕ) (k : List Frame) → Blank (entries true d ∷ k)
 unfolding step
 array-blank d k b e = cond-true (white b) _ _ e
 
--- where a number cannot go on
-abbrev calm : List ℕ → Bool
-calm [] = true
-calm (b ∷ bs) = not (digit b || eqb b 46 || exponentMark b)
-
 -- where digits cannot go on
 abbrev undigit : List ℕ → Bool
 undigit [] = true
 undigit (b ∷ bs) = not (digit b)
 
-calm-undigit : (t : List ℕ) → calm t ≡ true → undigit t ≡ true
-calm-undigit [] e = refl
-calm-undigit (b ∷ bs) e = grind (arith, tells)
+ends-undigit : (t : List ℕ) → numberEnds t ≡ true → undigit t ≡ true
+ends-undigit [] e = refl
+ends-undigit (b ∷ bs) e = grind (arith, tells)
 
-ws-calm : {t u : List ℕ} → Ws t u → calm u ≡ true → calm t ≡ true
-ws-calm ws-none e = e
-ws-calm (ws-more {b} h w) e = grind (arith, tells)
+ws-ends : {t u : List ℕ} → Ws t u → numberEnds u ≡ true → numberEnds t ≡ true
+ws-ends ws-none e = e
+ws-ends (ws-more {b} h w) e = grind (arith, tells)
 
-end-calm : {t : List ℕ} → Ws t [] → calm t ≡ true
-end-calm w = ws-calm w refl
+end-ends : {t : List ℕ} → Ws t [] → numberEnds t ≡ true
+end-ends w = ws-ends w refl
 
 accepts-like : (k l : List Frame) (b : ℕ) (bs : List ℕ) → step k b ≡ step l b → Accepts l (b ∷ bs) → Accepts k (b ∷ bs)
 accepts-like k l b bs e a s = ap ending (run-like b bs s k l e) ∙ a s
 
 module _ (k : List Frame) where
-  after-calm : (p : Part) (b : ℕ) → not (digit b || eqb b 46 || exponentMark b) ≡ true → step (after p ∷ k) b ≡ step k b
+  pub after-ends : (p : Part) (b : ℕ) → not (digit b || eqb b 46 || exponentMark b) ≡ true → step (after p ∷ k) b ≡ step k b
   unfolding step
-  after-calm whole b e = cond-false (eqb b 46) _ _ (grind (arith, tells)) ∙ cond-false (exponentMark b) _ _ (grind (arith, tells))
-  after-calm fraction b e = cond-false (exponentMark b) _ _ (grind (arith, tells))
-  after-calm exponent b e = refl
+  after-ends whole b e = cond-false (eqb b 46) _ _ (grind (arith, tells)) ∙ cond-false (exponentMark b) _ _ (grind (arith, tells))
+  after-ends fraction b e = cond-false (exponentMark b) _ _ (grind (arith, tells))
+  after-ends exponent b e = refl
 
   -- a number is over
-  after-on : (p : Part) (t : List ℕ) → calm t ≡ true → Accepts k t → Accepts (after p ∷ k) t
+  after-on : (p : Part) (t : List ℕ) → numberEnds t ≡ true → Accepts k t → Accepts (after p ∷ k) t
   unfolding run over
   after-on p [] e a = a
-  after-on p (b ∷ bs) e a = accepts-like (after p ∷ k) k b bs (after-calm p b e) a
+  after-on p (b ∷ bs) e a = accepts-like (after p ∷ k) k b bs (after-ends p b e) a
 
-  digits-other : (p : Part) (b : ℕ) → not (digit b) ≡ true → step (digits p ∷ k) b ≡ step (after p ∷ k) b
+  pub digits-other : (p : Part) (b : ℕ) → not (digit b) ≡ true → step (digits p ∷ k) b ≡ step (after p ∷ k) b
   unfolding step
   digits-other p b e = cond-false (digit b) _ _ (grind (arith, tells))
 
@@ -132,27 +128,27 @@ module _ (k : List Frame) where
   unfolding step
   exponent-fraction b e = cond-true (exponentMark b) _ _ e
 
-  exp-fraction-on : {t u : List ℕ} → Exp t u → calm u ≡ true → Accepts k u → Accepts (after fraction ∷ k) t
+  exp-fraction-on : {t u : List ℕ} → Exp t u → numberEnds u ≡ true → Accepts k u → Accepts (after fraction ∷ k) t
   exp-fraction-on {t} exp-none e a = after-on fraction t e a
-  exp-fraction-on {t} {u} (exp {b} h s ds) e a = accepts-go _ _ b _ (exponent-fraction b h) (sign-on s ds (calm-undigit u e) (after-on exponent u e a))
+  exp-fraction-on {t} {u} (exp {b} h s ds) e a = accepts-go _ _ b _ (exponent-fraction b h) (sign-on s ds (ends-undigit u e) (after-on exponent u e a))
 
-  exp-undigit : {t u : List ℕ} → Exp t u → calm u ≡ true → undigit t ≡ true
-  exp-undigit {t} exp-none e = calm-undigit t e
+  exp-undigit : {t u : List ℕ} → Exp t u → numberEnds u ≡ true → undigit t ≡ true
+  exp-undigit {t} exp-none e = ends-undigit t e
   exp-undigit (exp {b} h s ds) e = grind (arith, tells)
 
   point : step (after whole ∷ k) 46 ≡ go (digit1 fraction ∷ k)
   unfolding step
   point = refl
 
-  exp-whole-on : {t u : List ℕ} → Exp t u → calm u ≡ true → Accepts k u → Accepts (after whole ∷ k) t
+  exp-whole-on : {t u : List ℕ} → Exp t u → numberEnds u ≡ true → Accepts k u → Accepts (after whole ∷ k) t
   exp-whole-on {t} exp-none e a = after-on whole t e a
-  exp-whole-on {t} {u} (exp {b} h s ds) e a = accepts-go _ _ b _ (exponent-whole b h) (sign-on s ds (calm-undigit u e) (after-on exponent u e a))
+  exp-whole-on {t} {u} (exp {b} h s ds) e a = accepts-go _ _ b _ (exponent-whole b h) (sign-on s ds (ends-undigit u e) (after-on exponent u e a))
 
-  frac-on : {t b u : List ℕ} → Frac t b → Exp b u → calm u ≡ true → Accepts k u → Accepts (after whole ∷ k) t
+  frac-on : {t b u : List ℕ} → Frac t b → Exp b u → numberEnds u ≡ true → Accepts k u → Accepts (after whole ∷ k) t
   frac-on frac-none x e a = exp-whole-on x e a
   frac-on (frac ds) x e a = accepts-go _ _ 46 _ point (digits1-on fraction ds (exp-undigit x e) (exp-fraction-on x e a))
 
-  frac-undigit : {t b u : List ℕ} → Frac t b → Exp b u → calm u ≡ true → undigit t ≡ true
+  frac-undigit : {t b u : List ℕ} → Frac t b → Exp b u → numberEnds u ≡ true → undigit t ≡ true
   frac-undigit frac-none x e = exp-undigit x e
   frac-undigit (frac ds) x e = refl
 
@@ -160,7 +156,7 @@ module _ (k : List Frame) where
   unfolding step
   first-zero = refl
 
-  first-more : (b : ℕ) → between 49 57 b ≡ true → step (first ∷ k) b ≡ go (digits whole ∷ k)
+  pub first-more : (b : ℕ) → between 49 57 b ≡ true → step (first ∷ k) b ≡ go (digits whole ∷ k)
   unfolding step
   first-more b e = grind (arith, tells)
 
@@ -168,7 +164,7 @@ module _ (k : List Frame) where
   unfolding step
   value-zero d = refl
 
-  value-more : (d b : ℕ) → between 49 57 b ≡ true → step (value d ∷ k) b ≡ says number (digits whole ∷ k)
+  pub value-more : (d b : ℕ) → between 49 57 b ≡ true → step (value d ∷ k) b ≡ says number (digits whole ∷ k)
   unfolding step
   value-more d b e = grind (arith, tells)
 
@@ -176,15 +172,15 @@ module _ (k : List Frame) where
   unfolding step
   value-minus d = refl
 
-  int-first-on : {t c b u : List ℕ} → Int t c → Frac c b → Exp b u → calm u ≡ true → Accepts k u → Accepts (first ∷ k) t
+  int-first-on : {t c b u : List ℕ} → Int t c → Frac c b → Exp b u → numberEnds u ≡ true → Accepts k u → Accepts (first ∷ k) t
   int-first-on int-zero r x e a = accepts-go _ _ 48 _ first-zero (frac-on r x e a)
   int-first-on (int-more {b} h ds) r x e a = accepts-go _ _ b _ (first-more b h) (digits-on whole ds (frac-undigit r x e) (frac-on r x e a))
 
-  int-value-on : (d : ℕ) {t c b u : List ℕ} → Int t c → Frac c b → Exp b u → calm u ≡ true → Accepts k u → Accepts (value d ∷ k) t
+  int-value-on : (d : ℕ) {t c b u : List ℕ} → Int t c → Frac c b → Exp b u → numberEnds u ≡ true → Accepts k u → Accepts (value d ∷ k) t
   int-value-on d int-zero r x e a = accepts-says _ _ number 48 _ (value-zero d) (frac-on r x e a)
   int-value-on d (int-more {b} h ds) r x e a = accepts-says _ _ number b _ (value-more d b h) (digits-on whole ds (frac-undigit r x e) (frac-on r x e a))
 
-  number-on : (d : ℕ) {t u : List ℕ} → Number t u → calm u ≡ true → Accepts k u → Accepts (value d ∷ k) t
+  number-on : (d : ℕ) {t u : List ℕ} → Number t u → numberEnds u ≡ true → Accepts k u → Accepts (value d ∷ k) t
   number-on d (a-number minus-none i r x) e a = int-value-on d i r x e a
   number-on d (a-number minus i r x) e a = accepts-says _ _ number 45 _ (value-minus d) (int-first-on i r x e a)
 
@@ -341,7 +337,7 @@ module _ (d : ℕ) (k : List Frame) where
   unfolding run step
   null-on t a s = a (suc (suc (suc (suc s))))
 
-  first-byte : (b : ℕ) → white b ≡ false → eqb b 93 ≡ false → step (entries true d ∷ k) b ≡ step (value d ∷ entries false d ∷ k) b
+  pub first-byte : (b : ℕ) → white b ≡ false → eqb b 93 ≡ false → step (entries true d ∷ k) b ≡ step (value d ∷ entries false d ∷ k) b
   unfolding step
   first-byte b e q = cond-false (white b) _ _ e ∙ cond-false (eqb b 93) _ _ q ∙ sym (cond-false (white b) _ _ e)
 
@@ -360,16 +356,16 @@ module _ (d : ℕ) (k : List Frame) where
   first-entry [] s a = a
   first-entry (b ∷ bs) s a = first-by b bs s (white b) (eqb b 93) refl refl (first-entry bs (suc s)) a
 
-mark-calm : (c : ℕ) {t u : List ℕ} → not (digit c || eqb c 46 || exponentMark c) ≡ true → Mark c t u → calm t ≡ true
-mark-calm c e (mark w x) = ws-calm w e
+mark-ends : (c : ℕ) {t u : List ℕ} → not (digit c || eqb c 46 || exponentMark c) ≡ true → Mark c t u → numberEnds t ≡ true
+mark-ends c e (mark w x) = ws-ends w e
 
-members-calm : {d : ℕ} {t u : List ℕ} → Members d t u → calm t ≡ true
-members-calm (members-end m) = mark-calm 125 refl m
-members-calm (members-more m x y) = mark-calm 44 refl m
+members-ends : {d : ℕ} {t u : List ℕ} → Members d t u → numberEnds t ≡ true
+members-ends (members-end m) = mark-ends 125 refl m
+members-ends (members-more m x y) = mark-ends 44 refl m
 
-entries-calm : {d : ℕ} {t u : List ℕ} → Entries d t u → calm t ≡ true
-entries-calm (entries-end m) = mark-calm 93 refl m
-entries-calm (entries-more m x y) = mark-calm 44 refl m
+entries-ends : {d : ℕ} {t u : List ℕ} → Entries d t u → numberEnds t ≡ true
+entries-ends (entries-end m) = mark-ends 93 refl m
+entries-ends (entries-more m x y) = mark-ends 44 refl m
 
 -- a structural character before what the stack takes after it
 mark-says : (k l : List Frame) (n : Kind) (c : ℕ) {t u : List ℕ} → Blank k → step k c ≡ says n l → Blank l → Mark c t u → Accepts l u → Accepts k t
@@ -379,7 +375,7 @@ mark-goes : (k l : List Frame) (c : ℕ) {t u : List ℕ} → Blank k → step k
 mark-goes k l c h e j (mark {a = x} w v) a = ws-on k h w (accepts-go k l c x e (ws-on l j v a))
 
 mutual
-  value-on : {d : ℕ} {t u : List ℕ} {k : List Frame} → Value d t u → Rest k → calm u ≡ true → Accepts k u → Accepts (value d ∷ k) t
+  value-on : {d : ℕ} {t u : List ℕ} {k : List Frame} → Value d t u → Rest k → numberEnds u ≡ true → Accepts k u → Accepts (value d ∷ k) t
   value-on {d} {k = k} (is-false {t = x}) r c a = false-on d k x a
   value-on {d} {k = k} (is-null {t = x}) r c a = null-on d k x a
   value-on {d} {k = k} (is-true {t = x}) r c a = true-on d k x a
@@ -390,23 +386,23 @@ mutual
 
   object-on : {d : ℕ} {t u : List ℕ} {k : List Frame} → Object d t u → Rest k → Accepts k u → Accepts (members true d ∷ k) t
   object-on {d} {k = k} (object-none m) r a = mark-says _ _ end-object 125 (object-blank d k) (object-end d k) (rest-blank r) m a
-  object-on {d} {k = k} (object-some m ms) r a = member-on _ (object-quote d k) m r (members-calm ms) (members-on ms r a)
+  object-on {d} {k = k} (object-some m ms) r a = member-on _ (object-quote d k) m r (members-ends ms) (members-on ms r a)
 
   -- a member, wherever its name may stand
-  member-on : {d : ℕ} {t u : List ℕ} {k : List Frame} (f : List Frame) → step f 34 ≡ says name (chars ∷ colon d ∷ k) → Member d t u → Rest k → calm u ≡ true → Accepts (members false d ∷ k) u → Accepts f t
+  member-on : {d : ℕ} {t u : List ℕ} {k : List Frame} (f : List Frame) → step f 34 ≡ says name (chars ∷ colon d ∷ k) → Member d t u → Rest k → numberEnds u ≡ true → Accepts (members false d ∷ k) u → Accepts f t
   member-on {d} {k = k} f q (a-member (str s) m v) r c a = accepts-says f _ name 34 _ q (string-on (colon d ∷ k) s (mark-goes _ _ 58 (colon-blank d k) (colon-step d k) (value-blank d (members false d ∷ k)) m (value-on v (rest-object r) c a)))
 
   members-on : {d : ℕ} {t u : List ℕ} {k : List Frame} → Members d t u → Rest k → Accepts k u → Accepts (members false d ∷ k) t
   members-on {d} {k = k} (members-end m) r a = mark-says _ _ end-object 125 (rest-blank (rest-object r)) (members-end-step d k) (rest-blank r) m a
-  members-on {d} {k = k} (members-more m x ms) r a = mark-goes _ _ 44 (rest-blank (rest-object r)) (members-comma d k) (member-blank d k) m (member-on _ (member-quote d k) x r (members-calm ms) (members-on ms r a))
+  members-on {d} {k = k} (members-more m x ms) r a = mark-goes _ _ 44 (rest-blank (rest-object r)) (members-comma d k) (member-blank d k) m (member-on _ (member-quote d k) x r (members-ends ms) (members-on ms r a))
 
   array-on : {d : ℕ} {t u : List ℕ} {k : List Frame} → Array d t u → Rest k → Accepts k u → Accepts (entries true d ∷ k) t
   array-on {d} {k = k} (array-none m) r a = mark-says _ _ end-array 93 (array-blank d k) (array-end d k) (rest-blank r) m a
-  array-on {d} {t} {k = k} (array-some v es) r a = λ s. first-entry d k t s (value-on v (rest-array r) (entries-calm es) (entries-on es r a) s)
+  array-on {d} {t} {k = k} (array-some v es) r a = λ s. first-entry d k t s (value-on v (rest-array r) (entries-ends es) (entries-on es r a) s)
 
   entries-on : {d : ℕ} {t u : List ℕ} {k : List Frame} → Entries d t u → Rest k → Accepts k u → Accepts (entries false d ∷ k) t
   entries-on {d} {k = k} (entries-end m) r a = mark-says _ _ end-array 93 (rest-blank (rest-array r)) (entries-end-step d k) (rest-blank r) m a
-  entries-on {d} {k = k} (entries-more m v es) r a = mark-goes _ _ 44 (rest-blank (rest-array r)) (entries-comma d k) (value-blank d (entries false d ∷ k)) m (value-on v (rest-array r) (entries-calm es) (entries-on es r a))
+  entries-on {d} {k = k} (entries-more m v es) r a = mark-goes _ _ 44 (rest-blank (rest-array r)) (entries-comma d k) (value-blank d (entries false d ∷ k)) m (value-on v (rest-array r) (entries-ends es) (entries-on es r a))
 
 -- white space alone may be left
 end-on : {t : List ℕ} → Ws t [] → Accepts [] t
@@ -415,7 +411,7 @@ end-on w = ws-on [] (rest-blank rest-none) w (λ s. refl)
 
 -- a text of the grammar is taken to a good end
 pub complete : {d : ℕ} {t : List ℕ} → Text d t → Accepts (value d ∷ []) t
-complete {d} (text w v x) = ws-on (value d ∷ []) (value-blank d []) w (value-on v rest-none (end-calm x) (end-on x))
+complete {d} (text w v x) = ws-on (value d ∷ []) (value-blank d []) w (value-on v rest-none (end-ends x) (end-on x))
 
 -- more levels do no harm
 mutual

@@ -6,3 +6,6 @@ pub mod Stacks
 pub mod Sound
 pub mod Complete
 pub mod Judging
+pub mod Written
+pub mod Decimal
+pub mod Back

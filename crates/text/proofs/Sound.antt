@@ -57,26 +57,26 @@ record Sound (b : ℕ) (k : List Frame) (x : Step) : Type 0 where
   gone : (l : List Frame) (bs : List ℕ) → x ≡ go l → Fits l bs → Fits k (b ∷ bs)
   said : (n : Kind) (l : List Frame) (bs : List ℕ) → x ≡ says n l → Fits l bs → Fits k (b ∷ bs)
 
-goes : {b : ℕ} {k l : List Frame} → ((bs : List ℕ) → Fits l bs → Fits k (b ∷ bs)) → Sound b k (go l)
-goes {b} {k} {l} h = record {
+go-sound : {b : ℕ} {k l : List Frame} → ((bs : List ℕ) → Fits l bs → Fits k (b ∷ bs)) → Sound b k (go l)
+go-sound {b} {k} {l} h = record {
   gone = λ m bs e f. let q : m ≡ l = cc in h bs (subst (λ o. Fits o bs) q f);
   said = λ n m bs e f. absurd (let z : _≡_ {A = ℕ} 0 1 = cc in omega arith);
 }
 
-tells-of : {b : ℕ} {k l : List Frame} {n : Kind} → ((bs : List ℕ) → Fits l bs → Fits k (b ∷ bs)) → Sound b k (says n l)
-tells-of {b} {k} {l} h = record {
+says-sound : {b : ℕ} {k l : List Frame} {n : Kind} → ((bs : List ℕ) → Fits l bs → Fits k (b ∷ bs)) → Sound b k (says n l)
+says-sound {b} {k} {l} h = record {
   gone = λ m bs e f. absurd (let z : _≡_ {A = ℕ} 0 1 = cc in omega arith);
   said = λ n m bs e f. let q : m ≡ l = cc in h bs (subst (λ o. Fits o bs) q f);
 }
 
-stops : {b : ℕ} {k : List Frame} → Sound b k forbidden
-stops = record {
+stop-sound : {b : ℕ} {k : List Frame} → Sound b k forbidden
+stop-sound = record {
   gone = λ m bs e f. absurd (let z : _≡_ {A = ℕ} 0 1 = cc in omega arith);
   said = λ n m bs e f. absurd (let z : _≡_ {A = ℕ} 0 1 = cc in omega arith);
 }
 
-sinks : {b : ℕ} {k : List Frame} → Sound b k too-deep
-sinks = record {
+deep-sound : {b : ℕ} {k : List Frame} → Sound b k too-deep
+deep-sound = record {
   gone = λ m bs e f. absurd (let z : _≡_ {A = ℕ} 0 1 = cc in omega arith);
   said = λ n m bs e f. absurd (let z : _≡_ {A = ℕ} 0 1 = cc in omega arith);
 }
@@ -128,12 +128,12 @@ module _ (k : List Frame) where
   value-null d bs (fits (l-literal (spelt-more (spelt-more (spelt-more spelt-none)))) f) = fits (l-value ws-none is-null) f
 
   opens-object : (d : ℕ) → Sound 123 (value d ∷ k) (opens d (λ e. says begin-object (members true e ∷ k)))
-  opens-object zero = sinks
-  opens-object (suc d) = tells-of (value-object d)
+  opens-object zero = deep-sound
+  opens-object (suc d) = says-sound (value-object d)
 
   opens-array : (d : ℕ) → Sound 91 (value d ∷ k) (opens d (λ e. says begin-array (entries true e ∷ k)))
-  opens-array zero = sinks
-  opens-array (suc d) = tells-of (value-array d)
+  opens-array zero = deep-sound
+  opens-array (suc d) = says-sound (value-array d)
 
 not-zero : (b : ℕ) → eqb b 48 ≡ false → digit b ≡ true → between 49 57 b ≡ true
 not-zero b e q = grind (arith, tells)
@@ -142,13 +142,13 @@ begins-sound : (d b : ℕ) (k : List Frame) → Sound b (value d ∷ k) (begins 
 begins-sound d b k =
     both (eqb b 123) (λ e. is b 123 e (opens-object k d))
     (λ _. both (eqb b 91) (λ e. is b 91 e (opens-array k d))
-    (λ _. both (eqb b 34) (λ e. is b 34 e (tells-of (value-string k d)))
-    (λ _. both (eqb b 45) (λ e. is b 45 e (tells-of (value-minus k d)))
-    (λ z. both (eqb b 48) (λ e. is b 48 e (tells-of (value-zero k d)))
-    (λ n. both (digit b) (λ e. tells-of (value-digit k d b (not-zero b n e)))
-    (λ _. both (eqb b 116) (λ e. is b 116 e (tells-of (value-true k d)))
-    (λ _. both (eqb b 102) (λ e. is b 102 e (tells-of (value-false k d)))
-    (λ _. both (eqb b 110) (λ e. is b 110 e (tells-of (value-null k d))) (λ _. stops)))))))))
+    (λ _. both (eqb b 34) (λ e. is b 34 e (says-sound (value-string k d)))
+    (λ _. both (eqb b 45) (λ e. is b 45 e (says-sound (value-minus k d)))
+    (λ z. both (eqb b 48) (λ e. is b 48 e (says-sound (value-zero k d)))
+    (λ n. both (digit b) (λ e. says-sound (value-digit k d b (not-zero b n e)))
+    (λ _. both (eqb b 116) (λ e. is b 116 e (says-sound (value-true k d)))
+    (λ _. both (eqb b 102) (λ e. is b 102 e (says-sound (value-false k d)))
+    (λ _. both (eqb b 110) (λ e. is b 110 e (says-sound (value-null k d))) (λ _. stop-sound)))))))))
 
 module _ (k : List Frame) where
   first-zero : (bs : List ℕ) → Fits (after whole ∷ k) bs → Fits (first ∷ k) (48 ∷ bs)
@@ -187,8 +187,8 @@ module _ (k : List Frame) where
   nothing-after exponent t f = fits (l-after after-exponent) f
 
   follows-sound : (p : Part) (b : ℕ) {x : Step} → Sound b k x → Sound b (after p ∷ k) (follows p b k x)
-  follows-sound whole b s = both (eqb b 46) (λ e. is b 46 e (goes with-point)) (λ _. both (exponentMark b) (λ e. goes (whole-exponent b e)) (λ _. widen (nothing-after whole) s))
-  follows-sound fraction b s = both (exponentMark b) (λ e. goes (fraction-exponent b e)) (λ _. widen (nothing-after fraction) s)
+  follows-sound whole b s = both (eqb b 46) (λ e. is b 46 e (go-sound with-point)) (λ _. both (exponentMark b) (λ e. go-sound (whole-exponent b e)) (λ _. widen (nothing-after whole) s))
+  follows-sound fraction b s = both (exponentMark b) (λ e. go-sound (fraction-exponent b e)) (λ _. widen (nothing-after fraction) s)
   follows-sound exponent b s = widen (nothing-after exponent) s
 
   closing-quote : (bs : List ℕ) → Fits k bs → Fits (chars ∷ k) (34 ∷ bs)
@@ -238,13 +238,13 @@ module _ (k : List Frame) where
 
   lead-sound : (b : ℕ) → Sound b (chars ∷ k) (lead b k)
   lead-sound b =
-      both (between 194 223 b) (λ e. goes (lead-2 b e))
-      (λ _. both (eqb b 224) (λ e. is b 224 e (goes lead-e0))
-      (λ _. both (eqb b 237) (λ e. is b 237 e (goes lead-ed))
-      (λ n. both (between 225 239 b) (λ e. goes (lead-3 b (leb b 236) refl n e))
-      (λ _. both (eqb b 240) (λ e. is b 240 e (goes lead-f0))
-      (λ _. both (between 241 243 b) (λ e. goes (lead-f1 b e))
-      (λ _. both (eqb b 244) (λ e. is b 244 e (goes lead-f4)) (λ _. stops)))))))
+      both (between 194 223 b) (λ e. go-sound (lead-2 b e))
+      (λ _. both (eqb b 224) (λ e. is b 224 e (go-sound lead-e0))
+      (λ _. both (eqb b 237) (λ e. is b 237 e (go-sound lead-ed))
+      (λ n. both (between 225 239 b) (λ e. go-sound (lead-3 b (leb b 236) refl n e))
+      (λ _. both (eqb b 240) (λ e. is b 240 e (go-sound lead-f0))
+      (λ _. both (between 241 243 b) (λ e. go-sound (lead-f1 b e))
+      (λ _. both (eqb b 244) (λ e. is b 244 e (go-sound lead-f4)) (λ _. stop-sound)))))))
 
   one-letter : (c : ℕ) (cs bs : List ℕ) → Fits (letters cs k) bs → Fits (literal (c ∷ cs) ∷ k) (c ∷ bs)
   one-letter c [] bs f = fits (l-literal (spelt-more spelt-none)) f
@@ -308,36 +308,36 @@ is-ascii b p q r s = grind (arith, tells)
 
 step-sound : (k : List Frame) (b : ℕ) → Sound b k (step k b)
 unfolding step
-step-sound [] b = both (white b) (λ e. goes (end-white b e)) (λ _. stops)
-step-sound (value d ∷ k) b = both (white b) (λ e. goes (value-white k e)) (λ _. begins-sound d b k)
-step-sound (first ∷ k) b = both (eqb b 48) (λ e. is b 48 e (goes (first-zero k))) (λ n. both (digit b) (λ e. goes (first-digit k b (not-zero b n e))) (λ _. stops))
-step-sound (digits p ∷ k) b = both (digit b) (λ e. goes (one-digit k p b e)) (λ _. widen (no-digit k p) (follows-sound k p b (step-sound k b)))
-step-sound (digit1 p ∷ k) b = both (digit b) (λ e. goes (some-digit k p b e)) (λ _. stops)
-step-sound (sign ∷ k) b = both (signMark b) (λ e. goes (with-sign k b e)) (λ _. both (digit b) (λ e. goes (without-sign k b e)) (λ _. stops))
+step-sound [] b = both (white b) (λ e. go-sound (end-white b e)) (λ _. stop-sound)
+step-sound (value d ∷ k) b = both (white b) (λ e. go-sound (value-white k e)) (λ _. begins-sound d b k)
+step-sound (first ∷ k) b = both (eqb b 48) (λ e. is b 48 e (go-sound (first-zero k))) (λ n. both (digit b) (λ e. go-sound (first-digit k b (not-zero b n e))) (λ _. stop-sound))
+step-sound (digits p ∷ k) b = both (digit b) (λ e. go-sound (one-digit k p b e)) (λ _. widen (no-digit k p) (follows-sound k p b (step-sound k b)))
+step-sound (digit1 p ∷ k) b = both (digit b) (λ e. go-sound (some-digit k p b e)) (λ _. stop-sound)
+step-sound (sign ∷ k) b = both (signMark b) (λ e. go-sound (with-sign k b e)) (λ _. both (digit b) (λ e. go-sound (without-sign k b e)) (λ _. stop-sound))
 step-sound (after p ∷ k) b = follows-sound k p b (step-sound k b)
 step-sound (chars ∷ k) b =
-    both (eqb b 34) (λ e. is b 34 e (goes (closing-quote k)))
-    (λ p. both (eqb b 92) (λ e. is b 92 e (goes (backslash k)))
-    (λ q. both (leb b 31) (λ _. stops) (λ r. both (leb b 127) (λ s. goes (plain-char k b (is-ascii b p q r s))) (λ _. lead-sound k b))))
-step-sound (escape ∷ k) b = both (shortEscape b) (λ e. goes (short-escape k b e)) (λ _. both (eqb b 117) (λ e. is b 117 e (goes (hex-escape k))) (λ _. stops))
-step-sound (hex n ∷ k) b = both (hexDigit b) (λ e. goes (hex-digit k n b e)) (λ _. stops)
-step-sound (tail lo hi n ∷ k) b = both (between lo hi b) (λ e. goes (tail-byte k lo hi n b e)) (λ _. stops)
-step-sound (literal [] ∷ k) b = stops
-step-sound (literal (c ∷ cs) ∷ k) b = both (eqb b c) (λ e. is b c e (goes (one-letter k c cs))) (λ _. stops)
-step-sound (member d ∷ k) b = both (white b) (λ e. goes (member-white k d b e)) (λ _. both (eqb b 34) (λ e. is b 34 e (tells-of (member-name k d))) (λ _. stops))
-step-sound (colon d ∷ k) b = both (white b) (λ e. goes (colon-white k d b e)) (λ _. both (eqb b 58) (λ e. is b 58 e (goes (colon-value k d))) (λ _. stops))
+    both (eqb b 34) (λ e. is b 34 e (go-sound (closing-quote k)))
+    (λ p. both (eqb b 92) (λ e. is b 92 e (go-sound (backslash k)))
+    (λ q. both (leb b 31) (λ _. stop-sound) (λ r. both (leb b 127) (λ s. go-sound (plain-char k b (is-ascii b p q r s))) (λ _. lead-sound k b))))
+step-sound (escape ∷ k) b = both (shortEscape b) (λ e. go-sound (short-escape k b e)) (λ _. both (eqb b 117) (λ e. is b 117 e (go-sound (hex-escape k))) (λ _. stop-sound))
+step-sound (hex n ∷ k) b = both (hexDigit b) (λ e. go-sound (hex-digit k n b e)) (λ _. stop-sound)
+step-sound (tail lo hi n ∷ k) b = both (between lo hi b) (λ e. go-sound (tail-byte k lo hi n b e)) (λ _. stop-sound)
+step-sound (literal [] ∷ k) b = stop-sound
+step-sound (literal (c ∷ cs) ∷ k) b = both (eqb b c) (λ e. is b c e (go-sound (one-letter k c cs))) (λ _. stop-sound)
+step-sound (member d ∷ k) b = both (white b) (λ e. go-sound (member-white k d b e)) (λ _. both (eqb b 34) (λ e. is b 34 e (says-sound (member-name k d))) (λ _. stop-sound))
+step-sound (colon d ∷ k) b = both (white b) (λ e. go-sound (colon-white k d b e)) (λ _. both (eqb b 58) (λ e. is b 58 e (go-sound (colon-value k d))) (λ _. stop-sound))
 step-sound (members true d ∷ k) b =
-    both (white b) (λ e. goes (object-white k d b e))
-    (λ _. both (eqb b 125) (λ e. is b 125 e (tells-of (object-empty k d))) (λ _. both (eqb b 34) (λ e. is b 34 e (tells-of (object-name k d))) (λ _. stops)))
+    both (white b) (λ e. go-sound (object-white k d b e))
+    (λ _. both (eqb b 125) (λ e. is b 125 e (says-sound (object-empty k d))) (λ _. both (eqb b 34) (λ e. is b 34 e (says-sound (object-name k d))) (λ _. stop-sound)))
 step-sound (members false d ∷ k) b =
-    both (white b) (λ e. goes (members-white k d b e))
-    (λ _. both (eqb b 125) (λ e. is b 125 e (tells-of (members-over k d))) (λ _. both (eqb b 44) (λ e. is b 44 e (goes (members-next k d))) (λ _. stops)))
+    both (white b) (λ e. go-sound (members-white k d b e))
+    (λ _. both (eqb b 125) (λ e. is b 125 e (says-sound (members-over k d))) (λ _. both (eqb b 44) (λ e. is b 44 e (go-sound (members-next k d))) (λ _. stop-sound)))
 step-sound (entries true d ∷ k) b =
-    both (white b) (λ e. goes (array-white k d b e))
-    (λ _. both (eqb b 93) (λ e. is b 93 e (tells-of (array-empty k d))) (λ _. widen (array-first k d) (begins-sound d b (entries false d ∷ k))))
+    both (white b) (λ e. go-sound (array-white k d b e))
+    (λ _. both (eqb b 93) (λ e. is b 93 e (says-sound (array-empty k d))) (λ _. widen (array-first k d) (begins-sound d b (entries false d ∷ k))))
 step-sound (entries false d ∷ k) b =
-    both (white b) (λ e. goes (entries-white k d b e))
-    (λ _. both (eqb b 93) (λ e. is b 93 e (tells-of (entries-over k d))) (λ _. both (eqb b 44) (λ e. is b 44 e (goes (entries-next k d))) (λ _. stops)))
+    both (white b) (λ e. go-sound (entries-white k d b e))
+    (λ _. both (eqb b 93) (λ e. is b 93 e (says-sound (entries-over k d))) (λ _. both (eqb b 44) (λ e. is b 44 e (go-sound (entries-next k d))) (λ _. stop-sound)))
 
 nothing : (p : Part) (t : List ℕ) → After p t t
 nothing whole t = after-whole frac-none exp-none

@@ -10,11 +10,12 @@ use Rattle.text.specs.Machine.{value, ending, tape, outcome}
 use Rattle.text.specs.Tree.{Json, events}
 use Rattle.text.specs.Ahead.{ahead, Passed, Finishes}
 use Rattle.text.proofs.Steps.{broken}
-use Rattle.text.proofs.Frames.{quiet}
+use Rattle.text.proofs.Frames.{same-ending}
 use Rattle.text.proofs.Judging.{short, long, text-read, by-outcome}
 use Rattle.text.proofs.value.check.Needs as need
+use Rattle.text.specs.Limits.{mostBytes, mostLevels}
 
-from-start : (t : List ℕ) (r : Reader) → r .at ≡ 0 → r .text .now ≡ t → tape t ≡ ahead r (value 24 ∷ [])
+from-start : (t : List ℕ) (r : Reader) → r .at ≡ 0 → r .text .now ≡ t → tape t ≡ ahead r (value mostLevels ∷ [])
 unfolding tape ahead
 from-start t r a e = rw (a, e) refl
 
@@ -32,9 +33,9 @@ returns-in-Break-value c =
     in
     record { exact = e; judged = by-outcome _ _ e; read = λ h x. e ∙ text-read _ h x }
 
-finished : (t : List ℕ) (r v s : Reader) (x : Result (Unit {0}) TextFault) (what : Json) → length t ≤ 65536 → r .at ≡ 0 → r .text .now ≡ t → Passed (λ k. value 24 ∷ k) (λ k. k) (events what) r v → Finishes v s x → x ≡ outcome t
-finished t r v s (Ok y) what h a e p q = sym (short t h ∙ ap ending (from-start t r a e ∙ p .runs []) ∙ quiet what _ ∙ ap ending (q .1))
-finished t r v s (Err y) what h a e p q = sym (short t h ∙ ap ending (from-start t r a e ∙ p .runs []) ∙ quiet what _ ∙ q .found [])
+finished : (t : List ℕ) (r v s : Reader) (x : Result (Unit {0}) TextFault) (what : Json) → length t ≤ mostBytes → r .at ≡ 0 → r .text .now ≡ t → Passed (λ k. value mostLevels ∷ k) (λ k. k) (events what) r v → Finishes v s x → x ≡ outcome t
+finished t r v s (Ok y) what h a e p q = sym (short t h ∙ ap ending (from-start t r a e ∙ p .runs []) ∙ same-ending what _ ∙ ap ending (q .1))
+finished t r v s (Err y) what h a e p q = sym (short t h ∙ ap ending (from-start t r a e ∙ p .runs []) ∙ same-ending what _ ∙ q .found [])
 
 pub returns : need.returns
 returns c =
