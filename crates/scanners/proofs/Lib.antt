@@ -1,3 +1,2 @@
 mod Steps
 pub mod Searches
-mod Banning

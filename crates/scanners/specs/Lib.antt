@@ -3,4 +3,3 @@ pub mod Flatbed
 pub mod Faults
 pub mod Ranges
 pub mod Values
-pub mod Bans

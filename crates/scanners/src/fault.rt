@@ -2,6 +2,9 @@
 ghost use mathlib.Core.Path.{_≡_};
 ghost use Rattle.scanners.specs.Faults.{faultNumber};
 
+// A refusal has no text to point into.
+const NO_PLACE: u32 = 0;
+
 #[derive(Clone, Copy, PartialEq, Eq, Debug)]
 pub enum FillFault {
     // A number that names nothing, a low end above the high one, a step below 1.
@@ -27,10 +30,10 @@ impl FillFault {
         }
     }
 
-    // The place that a refusal is reported at: there is no text to point into.
+    // The place that a refusal is reported at.
     pub fn offset(self) -> u32
         ensures { λ r. ⌜ r ≡ 0 ⌝ }
     {
-        0
+        NO_PLACE
     }
 }

@@ -18,6 +18,8 @@ use names::WordPartialEq;
 use scanner::Point;
 use scanner::Scanner;
 
+const HOME_SOURCE: Source = Source::FlatBed;
+const HOME_FORMAT: PixelFormat = PixelFormat::Gray8;
 const LOWEST_RESOLUTION: i32 = 75;
 const HIGHEST_RESOLUTION: i32 = 1200;
 const RESOLUTION_STEP: i32 = 25;
@@ -158,11 +160,11 @@ pub impl Scanner for Flatbed as FlatbedScanner {
     }
 
     fn home_source(&self) -> Source {
-        Source::FlatBed
+        HOME_SOURCE
     }
 
     fn home_format(&self, _source: Source) -> PixelFormat {
-        PixelFormat::Gray8
+        HOME_FORMAT
     }
 
     fn enabled(&self, source: Source, format: PixelFormat) -> bool {

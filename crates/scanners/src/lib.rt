@@ -1,8 +1,6 @@
-// The scanners that the engine is supplied with, and the search that they share.
-pub mod ban;
+// The flatbed, and what the supplied scanners share: the one search, values by word and range, and refusals.
 pub mod fault;
 pub mod flatbed;
-pub mod lock;
 pub mod range;
 pub mod search;
 pub mod values;
@@ -10,10 +8,6 @@ pub mod values;
 pub use fault::FillFault;
 pub use flatbed::Flatbed;
 pub use flatbed::FlatbedScanner;
-pub use lock::Lock;
-pub use lock::LockScanner;
-pub use lock::pile_offers;
-pub use lock::swapped;
 pub use range::Range;
 pub use search::Test;
 pub use search::any;

@@ -1,0 +1,5 @@
+pub mod Bounds
+pub mod Lookup
+pub mod Entries
+pub mod Device
+pub mod Filling
