@@ -107,36 +107,50 @@ fn plan_trial(rt: &LibcRuntime) -> io::Result<()> {
     shown(rt, &flatbed, "feeder resolution", FEEDER)
 }
 
+// Filling calls, each with its answer.
+fn calls_trial(rt: &LibcRuntime, table: &mut TableScanner, calls: &[(&str, Fill)]) -> io::Result<()> {
+    for (what, call) in calls {
+        told(rt, what, table.take(*call))?;
+    }
+    Ok(())
+}
+
 // Each refusal in its order: 41, 42, 43.
 fn fill_trial(rt: &LibcRuntime, table: &mut TableScanner) -> io::Result<()> {
     println!(rt, "filling")?;
-    told(rt, "source 7", table.add_source(7, 2))?;
-    told(rt, "source 0", table.add_source(0, 2))?;
-    told(rt, "source 1 with format 6", table.add_source(1, 6))?;
-    told(rt, "format of a source that is not there", table.add_format(1, 1))?;
-    told(rt, "home source that is not there", table.name_home(1))?;
-    told(rt, "flatbed again", table.add_source(4, 1))?;
-    told(rt, "feeder with bw1", table.add_source(1, 1))?;
-    told(rt, "its home format again", table.add_format(1, 1))?;
-    told(rt, "feeder with rgb24", table.add_format(1, 4))?;
-    told(rt, "attribute 38", table.add_attribute(1, 1, 38, Given::Number(300)))?;
-    told(rt, "power-on word 17", table.add_attribute(1, 1, 31, Given::Word(17)))?;
-    told(rt, "attribute of a pair that is not there", table.add_attribute(1, 2, 31, Given::Number(300)))?;
-    told(rt, "resolution of bw1", table.add_attribute(1, 1, 31, Given::Number(300)))?;
-    told(rt, "resolution of bw1 again", table.add_attribute(1, 1, 31, Given::Number(300)))
+    let calls = [
+        ("source 7", Fill::Source(7, 2)),
+        ("source 0", Fill::Source(0, 2)),
+        ("source 1 with format 6", Fill::Source(1, 6)),
+        ("format of a source that is not there", Fill::Format(1, 1)),
+        ("home source that is not there", Fill::Home(1)),
+        ("flatbed again", Fill::Source(4, 1)),
+        ("feeder with bw1", Fill::Source(1, 1)),
+        ("its home format again", Fill::Format(1, 1)),
+        ("feeder with rgb24", Fill::Format(1, 4)),
+        ("attribute 38", Fill::Attribute(1, 1, 38, Given::Number(300))),
+        ("power-on word 17", Fill::Attribute(1, 1, 31, Given::Word(17))),
+        ("attribute of a pair that is not there", Fill::Attribute(1, 2, 31, Given::Number(300))),
+        ("resolution of bw1", Fill::Attribute(1, 1, 31, Given::Number(300))),
+        ("resolution of bw1 again", Fill::Attribute(1, 1, 31, Given::Number(300))),
+    ];
+    calls_trial(rt, table, &calls)
 }
 
 fn offer_trial(rt: &LibcRuntime, table: &mut TableScanner) -> io::Result<()> {
     println!(rt, "offering")?;
-    told(rt, "low above high", table.add_range(1, 1, 31, 10, 9, 1))?;
-    told(rt, "step 0", table.add_range(1, 1, 31, 9, 10, 0))?;
-    told(rt, "bad numbers before a missing point", table.add_range(1, 4, 31, 10, 9, 1))?;
-    told(rt, "range at a point that is not there", table.add_range(1, 4, 31, 9, 10, 1))?;
-    told(rt, "-7 to 20 by 5", table.add_range(1, 1, 31, -7, 20, 5))?;
-    told(rt, "word 17", table.add_word(1, 1, 31, 17))?;
-    told(rt, "word at a point that is not there", table.add_word(1, 4, 31, 3))?;
-    told(rt, "automatic", table.add_word(1, 1, 31, 3))?;
-    told(rt, "automatic again", table.add_word(1, 1, 31, 3))?;
+    let calls = [
+        ("low above high", Fill::Range(1, 1, 31, 10, 9, 1)),
+        ("step 0", Fill::Range(1, 1, 31, 9, 10, 0)),
+        ("bad numbers before a missing point", Fill::Range(1, 4, 31, 10, 9, 1)),
+        ("range at a point that is not there", Fill::Range(1, 4, 31, 9, 10, 1)),
+        ("-7 to 20 by 5", Fill::Range(1, 1, 31, -7, 20, 5)),
+        ("word 17", Fill::Word(1, 1, 31, 17)),
+        ("word at a point that is not there", Fill::Word(1, 4, 31, 3)),
+        ("automatic", Fill::Word(1, 1, 31, 3)),
+        ("automatic again", Fill::Word(1, 1, 31, 3)),
+    ];
+    calls_trial(rt, table, &calls)?;
     offered_numbers(rt, table, FEEDER, &[-8, -7, -6, -5, -2, 0, 3, 18, 20, 23, 300])?;
     offered_words(rt, table, FEEDER, &[2, 3, 4])?;
     told(rt, "all numbers by the largest step", table.add_range(1, 1, 31, -2147483648, 2147483647, 2147483647))?;
@@ -148,13 +162,16 @@ fn offer_trial(rt: &LibcRuntime, table: &mut TableScanner) -> io::Result<()> {
 fn full_trial(rt: &LibcRuntime, table: &mut TableScanner) -> io::Result<()> {
     println!(rt, "up to the last entry")?;
     table.fill(&[Fill::Range(1, 1, 31, 9, 9, 1); 249]);
-    told(rt, "entry 256", table.add_range(1, 1, 31, 9, 9, 1))?;
-    told(rt, "entry 257", table.add_range(1, 1, 31, 9, 9, 1))?;
-    told(rt, "unknown before full", table.add_source(7, 1))?;
-    told(rt, "missing before full", table.add_format(2, 1))?;
-    told(rt, "there before full", table.add_source(1, 1))?;
-    told(rt, "a new source", table.add_source(2, 1))?;
-    told(rt, "the home source, which is no entry", table.name_home(1))?;
+    let calls = [
+        ("entry 256", Fill::Range(1, 1, 31, 9, 9, 1)),
+        ("entry 257", Fill::Range(1, 1, 31, 9, 9, 1)),
+        ("unknown before full", Fill::Source(7, 1)),
+        ("missing before full", Fill::Format(2, 1)),
+        ("there before full", Fill::Source(1, 1)),
+        ("a new source", Fill::Source(2, 1)),
+        ("the home source, which is no entry", Fill::Home(1)),
+    ];
+    calls_trial(rt, table, &calls)?;
     let home = table.home_source() as u32;
     let format = table.home_format(Source::Feeder) as u32;
     println!(rt, "  home: source {home} and format {format}, both from 0")
