@@ -1,3 +1,5 @@
 pub mod Faults
 pub mod Levels
 pub mod Places
+pub mod Task
+pub mod Views
