@@ -1,1 +1,9 @@
+pub mod Exceptions
+pub mod Words
+pub mod Choices
 pub mod Troubles
+pub mod Plans
+pub mod Endings
+pub mod Verdicts
+pub mod Weights
+pub mod Tellings

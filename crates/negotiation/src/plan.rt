@@ -4,6 +4,7 @@ ghost use mathlib.Core.List.{[], _∷_, _++_};
 ghost use Prim.Native.Nat.{_<_, _≤_};
 ghost use Rattle.std.specs.Of.Vec.{vec-items, vec-len, vec-cap};
 ghost use Rattle.std.specs.Vec.{made};
+ghost use Rattle.negotiation.specs.Plans.{planRoom, fitted};
 use scanner::Item;
 use std::alloc::AllocError;
 use std::alloc::Global;
@@ -14,7 +15,8 @@ pub const PLAN_ROOM: usize = 512;
 #[derive(Drop)]
 pub struct Plan {
     items: Vec<Item>,
-    ghost room: { 512 ≤ vec-cap items },
+    ghost room: { planRoom ≤ vec-cap items },
+    ghost bound: { vec-len items ≤ planRoom },
 }
 
 impl Plan {
@@ -46,9 +48,9 @@ impl Plan {
 
     // Adds an item, where there is room for it.
     pub fn push(&mut self, item: Item)
-        ensures { λ _. ⌜ (vec-len (now (self .entry) .items) < 512 → vec-items (now (self .exit) .items) ≡ vec-items (now (self .entry) .items) ++ item ∷ []) ⌝ }
+        ensures { λ _. ⌜ vec-items (now (self .exit) .items) ≡ fitted (vec-items (now (self .entry) .items) ++ item ∷ []) ⌝ }
     {
-        if self.items.len() < PLAN_ROOM {
+        if self.len() < PLAN_ROOM {
             self.items.push_reserved(item);
         }
     }

@@ -1,7 +1,15 @@
 // The actions of a task, and the streams of each, against a scanner.
 ghost use mathlib.Core.Path.{_≡_};
+ghost use mathlib.Core.Bool.{_&&_, _||_};
 ghost use Prim.Native.Nat.{_+_, _<_};
-ghost use Rattle.negotiation.specs.Troubles.{streamForce};
+ghost use Rattle.std.specs.declared.option.Option.the-variants.{None};
+ghost use Rattle.table.specs.declared.exception.Exception.the-variants.{Ignore};
+ghost use Rattle.table.specs.Views.{streamsIn, actionOf, actionsIn};
+ghost use Rattle.negotiation.specs.Exceptions.{inForce, streamForce, withForces};
+ghost use Rattle.negotiation.specs.Troubles.{troubleAt, streamTroubles};
+ghost use Rattle.negotiation.specs.Endings.{failing, ending};
+ghost use Rattle.negotiation.specs.Verdicts.{outcomeOf, isOther, verbOf, isFail, actionHere, actionOutcome};
+ghost use Rattle.negotiation.specs.Tellings.{held, inRoom, okUnless, streamsTell, Acted, Negotiated};
 use crate::inspect::after;
 use crate::inspect::default_plan;
 use crate::inspect::stream;
@@ -10,10 +18,9 @@ use crate::trouble::Refusal;
 use crate::trouble::Rejection;
 use crate::trouble::Trouble;
 use crate::trouble::in_force;
-use crate::trouble::note;
+use crate::trouble::trouble_at;
 use scanner::Scanner;
 use table::Exception;
-use table::ExceptionPartialEq;
 use table::Head;
 use table::Inside;
 use table::Level;
@@ -42,19 +49,23 @@ fn stream_force(own: Option<Placed<Exception>>, action: Option<Placed<Exception>
     }
 }
 
-fn fails(trouble: Trouble) -> Rejection {
+fn fails(trouble: Trouble) -> Rejection
+    ensures { λ r. ⌜ r ≡ failing trouble ⌝ }
+{
     Rejection { refusal: Refusal::Fails, trouble }
 }
 
 // The streams of a configure action: the first that fits is chosen, if none before it stops.
 fn streams<S: Scanner>(scanner: &S, place: &mut Place, plan: &mut Plan, action: Option<Placed<Exception>>, entries: u32, records: &[Record]) -> Result<(), Rejection>
-    ensures { λ _. ⌜ now (place .exit) ≡ now (place .entry) ⌝ }
+    ensures place { λ _. ⌜ now (place .exit) ≡ now (place .entry) ⌝ }
+    ensures told { λ r. ⌜ streamsTell (held (now (plan .exit))) r ≡ inRoom (outcomeOf (catalogue (now (scanner .entry))) (ending (streamTroubles (catalogue (now (scanner .entry))) (now (place .entry))) None (withForces action entries (streamsIn (now (records .entry)))))) ⌝ }
 {
     let mut passed: Option<Trouble> = None;
     'streams: for (i, record) in records.iter().enumerate() {
         let head = match *record {
             Record::Stream(head) => head,
             Record::Action(_, _, _) => break 'streams,
+            Record::Vacant => break 'streams,
             _ => continue 'streams,
         };
         let last = head.index as u64 + 1 == entries as u64;
@@ -62,7 +73,7 @@ fn streams<S: Scanner>(scanner: &S, place: &mut Place, plan: &mut Plan, action: 
         match stream(scanner, place, plan, force, head, after(records, i)) {
             Ok(()) => return Ok(()),
             Err(trouble) => {
-                if trouble.exception == Exception::Fail {
+                if let Exception::Fail = trouble.exception {
                     return Err(fails(trouble));
                 }
                 passed = Some(trouble);
@@ -78,18 +89,40 @@ fn streams<S: Scanner>(scanner: &S, place: &mut Place, plan: &mut Plan, action: 
     }
 }
 
-// An action: its own trouble comes before its streams.
-fn action_here<S: Scanner>(scanner: &S, place: &mut Place, plan: &mut Plan, head: Head, verb: Verb, entries: u32, records: &[Record]) -> Result<Verdict, Rejection>
-    ensures { λ _. ⌜ now (place .exit) ≡ now (place .entry) ⌝ }
+// Whether an action asks for something else than to configure.
+fn is_other(word: Option<Placed<Verb>>) -> bool
+    ensures { λ r. ⌜ r ≡ isOther (verbOf word) ⌝ }
 {
-    let other = match verb {
-        Verb::Configure => false,
-        Verb::Other => true,
-    };
-    let force = in_force(head.exception, Exception::Ignore);
-    if let Err(trouble) = note(place, head, force, other || head.unknown) {
-        return Err(fails(trouble));
+    match word {
+        None => false,
+        Some(placed) => match placed.value {
+            Verb::Configure => false,
+            Verb::Other => true,
+        },
     }
+}
+
+// The trouble of an action itself, where there is one; it decides under fail.
+fn own_trouble(place: &Place, head: Head, here: bool) -> Result<(), Rejection>
+    ensures { λ r. ⌜ r ≡ okUnless (here && isFail (inForce (head .exception) Ignore)) (failing (troubleAt (now (place .entry)) head (inForce (head .exception) Ignore))) ⌝ }
+{
+    if !here {
+        return Ok(());
+    }
+    let force = in_force(head.exception, Exception::Ignore);
+    match force {
+        Exception::Fail => Err(fails(trouble_at(place, head, force))),
+        _ => Ok(()),
+    }
+}
+
+// An action: its own trouble comes before its streams.
+fn action_here<S: Scanner>(scanner: &S, place: &mut Place, plan: &mut Plan, head: Head, word: Option<Placed<Verb>>, entries: u32, records: &[Record]) -> Result<Verdict, Rejection>
+    ensures place { λ _. ⌜ now (place .exit) ≡ now (place .entry) ⌝ }
+    ensures acted { λ r. ⌜ Acted (actionHere (catalogue (now (scanner .entry))) (now (place .entry)) (actionOf head word entries (now (records .entry)))) (held (now (plan .entry))) (held (now (plan .exit))) r ⌝ }
+{
+    let other = is_other(word);
+    own_trouble(place, head, other || head.unknown)?;
     if other {
         return Ok(Verdict::Unchanged);
     }
@@ -97,31 +130,32 @@ fn action_here<S: Scanner>(scanner: &S, place: &mut Place, plan: &mut Plan, head
     Ok(Verdict::Configured)
 }
 
-fn action<S: Scanner>(scanner: &S, place: &mut Place, plan: &mut Plan, head: Head, verb: Verb, entries: u32, records: &[Record]) -> Result<Verdict, Rejection>
-    ensures { λ _. ⌜ now (place .exit) ≡ now (place .entry) ⌝ }
+fn action<S: Scanner>(scanner: &S, place: &mut Place, plan: &mut Plan, head: Head, word: Option<Placed<Verb>>, entries: u32, records: &[Record]) -> Result<Verdict, Rejection>
+    ensures place { λ _. ⌜ now (place .exit) ≡ now (place .entry) ⌝ }
+    ensures acted { λ r. ⌜ Acted (actionOutcome (catalogue (now (scanner .entry))) (now (place .entry)) (actionOf head word entries (now (records .entry)))) (held (now (plan .entry))) (held (now (plan .exit))) r ⌝ }
 {
     let outer = place.enter(Level::Action, head.index);
     let inside = Inside { place, level: Level::Action, outer };
-    action_here(scanner, inside.place, plan, head, verb, entries, records)
+    action_here(scanner, inside.place, plan, head, word, entries, records)
 }
 
 // Looks whether the scanner can meet every action of the task in the records. It only asks questions of the scanner.
 // Where it can, the plan is that of the last configure action, if there is one; else the first action that can't be met decides.
 pub fn negotiate<S: Scanner>(scanner: &S, place: &mut Place, plan: &mut Plan, records: &[Record]) -> Result<Verdict, Rejection>
-    ensures { λ _. ⌜ now (place .exit) ≡ now (place .entry) ⌝ }
+    ensures place { λ _. ⌜ now (place .exit) ≡ now (place .entry) ⌝ }
+    ensures negotiated { λ r. ⌜ Negotiated (catalogue (now (scanner .entry))) (now (place .entry)) (actionsIn (now (records .entry))) (held (now (plan .entry))) (held (now (plan .exit))) r ⌝ }
 {
     let mut verdict = Verdict::Unchanged;
     'actions: for (i, record) in records.iter().enumerate() {
-        let Record::Action(head, word, entries) = *record else {
-            continue 'actions;
-        };
-        let verb = match word {
-            None => Verb::Configure,
-            Some(placed) => placed.value,
-        };
-        match action(scanner, place, plan, head, verb, entries, after(records, i))? {
-            Verdict::Configured => verdict = Verdict::Configured,
-            Verdict::Unchanged => {}
+        match *record {
+            Record::Action(head, word, entries) => {
+                match action(scanner, place, plan, head, word, entries, after(records, i))? {
+                    Verdict::Configured => verdict = Verdict::Configured,
+                    Verdict::Unchanged => {}
+                }
+            }
+            Record::Vacant => break 'actions,
+            _ => continue 'actions,
         }
     }
     Ok(verdict)

@@ -1,7 +1,8 @@
 // What a scanner can't follow in a task, and where.
 ghost use mathlib.Core.Path.{_≡_};
-ghost use Rattle.std.specs.Results.{Cases};
-ghost use Rattle.negotiation.specs.Troubles.{inForce, rejectionNumber, Noted};
+ghost use Rattle.negotiation.specs.Exceptions.{inForce};
+ghost use Rattle.negotiation.specs.Troubles.{rejectionNumber, troubleAt, oneIf};
+ghost use Rattle.negotiation.specs.Tellings.{Noted};
 use table::Exception;
 use table::Head;
 use table::Place;
@@ -43,7 +44,7 @@ impl Rejection {
 }
 
 // The exception in force at an object: its own, else its parent's.
-pub fn in_force(own: Option<Placed<Exception>>, parent: Exception) -> Exception
+pub(crate) fn in_force(own: Option<Placed<Exception>>, parent: Exception) -> Exception
     ensures { λ r. ⌜ r ≡ inForce own parent ⌝ }
 {
     match own {
@@ -52,15 +53,22 @@ pub fn in_force(own: Option<Placed<Exception>>, parent: Exception) -> Exception
     }
 }
 
+// The trouble that lies at this object.
+pub(crate) fn trouble_at(place: &Place, head: Head, exception: Exception) -> Trouble
+    ensures { λ r. ⌜ r ≡ troubleAt (now (place .entry)) head exception ⌝ }
+{
+    Trouble { path: *place, offset: head.offset, exception }
+}
+
 // A trouble at this object, where the test holds; it decides unless it is to be ignored.
-pub fn note(place: &Place, head: Head, exception: Exception, here: bool) -> Result<(), Trouble>
-    ensures { λ r. ⌜ Noted (now (place .entry)) head exception here r ⌝ }
+pub(crate) fn note(place: &Place, head: Head, exception: Exception, here: bool) -> Result<(), Trouble>
+    ensures { λ r. ⌜ Noted (oneIf here (troubleAt (now (place .entry)) head exception)) r ⌝ }
 {
     if !here {
         return Ok(());
     }
     match exception {
         Exception::Ignore => Ok(()),
-        _ => Err(Trouble { path: *place, offset: head.offset, exception }),
+        _ => Err(trouble_at(place, head, exception)),
     }
 }

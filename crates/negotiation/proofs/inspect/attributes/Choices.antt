@@ -1,6 +1,11 @@
-use mathlib.Core.Path.{_≡_}
+use Rattle.table.specs.Views.{attributesIn}
+use Rattle.negotiation.specs.Troubles.{attributesTroubles}
+use Rattle.negotiation.specs.Plans.{attributesItems}
+use Rattle.negotiation.specs.Tellings.{held}
+use Rattle.negotiation.proofs.Onwards.{Along}
 use Rattle.negotiation.proofs.inspect.attributes.Given as given
 
--- between two objects the place record is as it was
 abbrev pub Inv-attributes : given.InvT-attributes
-Inv-attributes g l = l .place ≡ l .entry .place
+Inv-attributes g l =
+    let k = g .S·Scanner .catalogue (l .scanner) in
+    Along (λ rs. attributesTroubles k (l .source) (l .format) (l .entry .place) (l .parent) (attributesIn rs)) (λ rs. attributesItems k (l .source) (l .format) (attributesIn rs)) (l .records) (l .i) (l .entry .place) (l .place) (held (l .entry .plan)) (held (l .plan))

@@ -1,6 +1,7 @@
-use mathlib.Core.Path.{_≡_}
+use lib.ListN.{drop}
+use Rattle.negotiation.specs.Tellings.{held}
+use Rattle.negotiation.proofs.Judging.{Judging}
 use Rattle.negotiation.proofs.settle.negotiate.Given as given
 
--- between two objects the place record is as it was
 abbrev pub Inv-actions : given.InvT-actions
-Inv-actions g l = l .place ≡ l .entry .place
+Inv-actions g l = Judging (g .S·Scanner .catalogue (l .scanner)) (l .records) (drop (l .i) (l .records)) (l .entry .place) (l .place) (held (l .entry .plan)) (held (l .plan)) (l .verdict)

@@ -1,6 +1,7 @@
-use mathlib.Core.Path.{_≡_}
+use lib.ListN.{drop}
+use Rattle.negotiation.specs.Troubles.{streamTroubles}
+use Rattle.negotiation.proofs.Settling.{Trying}
 use Rattle.negotiation.proofs.settle.streams.Given as given
 
--- between two objects the place record is as it was
 abbrev pub Inv-streams : given.InvT-streams
-Inv-streams g l = l .place ≡ l .entry .place
+Inv-streams g l = Trying (streamTroubles (g .S·Scanner .catalogue (l .scanner)) (l .entry .place)) (l .action) (l .entries) (l .records) (drop (l .i) (l .records)) (l .entry .place) (l .place) (l .passed)

@@ -1,0 +1,14 @@
+pub mod Deciding
+pub mod Ending
+pub mod Rooms
+pub mod Goings
+pub mod Onwards
+pub mod Steps
+pub mod Choosing
+pub mod Settling
+pub mod Verdicting
+pub mod Judging
+pub mod Holding
+pub mod Offering
+pub mod Weighing
+pub mod Telling
