@@ -1,4 +1,10 @@
 pub mod Faults
+pub mod Limits
 pub mod Levels
+pub mod Words
+pub mod Drafts
+pub mod Steps
 pub mod Places
 pub mod Moves
+pub mod Task
+pub mod Views
