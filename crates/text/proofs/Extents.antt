@@ -12,9 +12,9 @@ use Rattle.std.specs.declared.result.Result.the-variants.{Err}
 use Rattle.text.specs.declared.reader.Reader.{Reader}
 use Rattle.text.specs.declared.fault.TextFault.the-variants.{Forbidden}
 use Rattle.text.specs.Machine.{Kind, Frame, Step, Tape, value, literal, go, says, forbidden, too-deep, good, fault, ending, step, over, ends, run}
-use Rattle.text.specs.Parts.{extent, scalarLength}
+use Rattle.text.specs.Parts.{extent, scalarLength, valueLength}
 use Rattle.text.specs.Ahead.{ahead, here, Inside, Passed, Halted}
-use Rattle.text.proofs.Steps.{run-go, run-says, run-forbidden, run-deep, bad-here, bad-end, Quiet, passed-halted, on}
+use Rattle.text.proofs.Steps.{run-go, run-says, run-forbidden, run-deep, bad-here, bad-end, SameEnding, passed-halted, on}
 
 over-offset : (i j : ℕ) (k : List Frame) (x : Bool) → over k ≡ x → ending (ends k i) ≡ Err (Forbidden j) → j ≡ i + 0
 over-offset i j k true q e = absurd (let f = ap ending (cond-true (over k) good (fault (Forbidden i)) q) in let z : _≡_ {A = ℕ} 0 1 = cc in omega arith)
@@ -38,10 +38,10 @@ pub stop-here : (r : Reader) → Halted (λ k. literal [] ∷ k) r r (Forbidden 
 unfolding step over
 stop-here r = ⊎-elim (λ h. bad-here h refl (λ k. refl)) (λ h. bad-end h refl (λ k. refl)) (cases-lt (r .at) (length (r .text .now)))
 
--- a scalar that was read ends where its length tells
-pub scalar-end : {a : Tape → Tape} {r s : Reader} → Quiet a → Passed (λ k. value 0 ∷ k) (λ k. k) a r s → s .at ≡ r .at + scalarLength (drop (r .at) (r .text .now))
-unfolding scalarLength ahead
-scalar-end {r = r} {s = s} z p = extent-run (drop (r .at) (r .text .now)) (r .at) (s .at) (value 0 ∷ literal [] ∷ []) (passed-halted z (on (λ k. literal [] ∷ k) p) (stop-here s) .found [])
+-- a value that was read ends where its length tells
+pub value-end : (d : ℕ) {a : Tape → Tape} {r s : Reader} → SameEnding a → Passed (λ k. value d ∷ k) (λ k. k) a r s → s .at ≡ r .at + valueLength d (drop (r .at) (r .text .now))
+unfolding valueLength ahead
+value-end d {r = r} {s = s} z p = extent-run (drop (r .at) (r .text .now)) (r .at) (s .at) (value d ∷ literal [] ∷ []) (passed-halted z (on (λ k. literal [] ∷ k) p) (stop-here s) .found [])
 
 extent-says : (b : ℕ) (bs : List ℕ) (n : Kind) (k l : List Frame) → step k b ≡ says n l → extent (b ∷ bs) k ≡ suc (extent bs l)
 unfolding extent
@@ -49,5 +49,5 @@ extent-says b bs n k l e = rw (e, extent) refl
 
 -- a scalar that has begun is not empty
 pub scalar-some : (r : Reader) (n : Kind) (l : List Frame) → Inside r → step (value 0 ∷ literal [] ∷ []) (here r) ≡ says n l → 0 < scalarLength (drop (r .at) (r .text .now))
-unfolding scalarLength
+unfolding valueLength
 scalar-some r n l h e = rw (drop-cons (r .text .now) (r .at) 0 h, extent-says (here r) (drop (suc (r .at)) (r .text .now)) n _ l e) (omega arith)

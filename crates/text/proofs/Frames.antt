@@ -84,18 +84,18 @@ number-says b (inr e) d k = (led-by b k, digit-says b d k e)
 mutual
   unfolding events member-events entry-events
 
-  pub quiet : (v : Json) (t : Tape) → ending (events v t) ≡ ending t
-  quiet (scalar x i) t = refl
-  quiet (object i ms j) t = quiet-members ms _
-  quiet (array i vs j) t = quiet-entries vs _
+  pub same-ending : (v : Json) (t : Tape) → ending (events v t) ≡ ending t
+  same-ending (scalar x i) t = refl
+  same-ending (object i ms j) t = same-ending-members ms _
+  same-ending (array i vs j) t = same-ending-entries vs _
 
-  pub quiet-members : (ms : Members) (t : Tape) → ending (member-events ms t) ≡ ending t
-  quiet-members no-member t = refl
-  quiet-members (one-member i v ms) t = quiet v _ ∙ quiet-members ms t
+  pub same-ending-members : (ms : Members) (t : Tape) → ending (member-events ms t) ≡ ending t
+  same-ending-members no-member t = refl
+  same-ending-members (one-member i v ms) t = same-ending v _ ∙ same-ending-members ms t
 
-  pub quiet-entries : (vs : Entries) (t : Tape) → ending (entry-events vs t) ≡ ending t
-  quiet-entries no-entry t = refl
-  quiet-entries (one-entry v vs) t = quiet v _ ∙ quiet-entries vs t
+  pub same-ending-entries : (vs : Entries) (t : Tape) → ending (entry-events vs t) ≡ ending t
+  same-ending-entries no-entry t = refl
+  same-ending-entries (one-entry v vs) t = same-ending v _ ∙ same-ending-entries vs t
 
 -- one member more, at the end
 pub add-member : Members → ℕ → Json → Members

@@ -2,3 +2,10 @@ pub mod Steps
 pub mod Frames
 pub mod Extents
 pub mod Matching
+pub mod Stacks
+pub mod Sound
+pub mod Complete
+pub mod Judging
+pub mod Written
+pub mod Decimal
+pub mod Back

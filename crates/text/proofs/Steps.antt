@@ -113,8 +113,8 @@ pub stay : {f : Stack} {r : Reader} → Onward f f r r
 stay {f} {r} = record { same = refl; forth = omega arith; runs = λ k. refl }
 
 -- events do not change how a text ends
-abbrev pub Quiet : (Tape → Tape) → Type 0
-Quiet p = (t : Tape) → ending (p t) ≡ ending t
+abbrev pub SameEnding : (Tape → Tape) → Type 0
+SameEnding p = (t : Tape) → ending (p t) ≡ ending t
 
 module _ {f g h : Stack} where
   pub then : {r s u : Reader} → Onward f g r s → Onward g h s u → Onward f h r u
@@ -126,7 +126,7 @@ module _ {f g h : Stack} where
 pub then-halted : {f g : Stack} {r s u : Reader} {e : TextFault} → Onward f g r s → Halted g s u e → Halted f r u e
 then-halted p q = record { same = q .same ∙ p .same; found = λ k. ap ending (p .runs k) ∙ q .found k }
 
-pub passed-halted : {f g : Stack} {a : Tape → Tape} {r s u : Reader} {e : TextFault} → Quiet a → Passed f g a r s → Halted g s u e → Halted f r u e
+pub passed-halted : {f g : Stack} {a : Tape → Tape} {r s u : Reader} {e : TextFault} → SameEnding a → Passed f g a r s → Halted g s u e → Halted f r u e
 passed-halted z p q = record { same = q .same ∙ p .same; found = λ k. ap ending (p .runs k) ∙ z _ ∙ q .found k }
 
 pub then-reads : {f g : Stack} (h : Stack) {r s : Reader} (u : Reader) (x : Result (Unit {0}) TextFault) → Onward f g r s → Reads g h s u x → Reads f h r u x

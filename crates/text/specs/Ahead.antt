@@ -21,7 +21,7 @@ use Rattle.text.specs.declared.token.Member.the-variants.{Named, End}
 use Rattle.text.specs.Bytes.{white}
 use Rattle.text.specs.Machine.{Frame, value, letters, member, members, entries, tail, chars, Kind, begin-object, begin-array, end-object, end-array, name, string, number, literal-true, literal-false, literal-null, Step, go, says, forbidden, step, Tape, good, event, ending, run}
 use Rattle.text.specs.Tree.{Json, Members, Entries, events, member-events, entry-events}
-use Rattle.text.specs.Parts.{scalarLength, stringPart, numberPart}
+use Rattle.text.specs.Parts.{scalarLength, valueLength, stringPart, numberPart}
 
 -- the tape of the rest of the text at the stack k
 unfoldable pub ahead : Reader → List Frame → Tape
@@ -192,6 +192,7 @@ pub record ValueRead (d : ℕ) (r s : Reader) (x : Token) (i : ℕ) : Type 0 whe
   pub moves : r .at < s .at
   pub what : Json
   pub starts : Starts what (kindOf x) i
+  pub to : s .at ≡ r .at + valueLength d (drop (r .at) (r .text .now))
   pub holds : Holds (drop i (r .text .now)) x
   pub passed : Passed (λ k. value d ∷ k) (λ k. k) (events what) r s
 
@@ -207,6 +208,7 @@ pub record MembersRead (d : ℕ) (r s : Reader) : Type 0 where
   pub to : s .at ≡ last + 1
   pub passed : Passed (λ k. members true d ∷ k) (λ k. k) (λ t. member-events what (event end-object last t)) r s
 
+-- the members, or the fault of the text
 abbrev pub ReadsMembers : ℕ → Reader → Reader → Result (Unit {0}) TextFault → Type 0
 ReadsMembers d r s (Ok x) = MembersRead d r s
 ReadsMembers d r s (Err e) = Halted (λ k. members true d ∷ k) r s e
@@ -218,6 +220,7 @@ pub record EntriesRead (d : ℕ) (r s : Reader) : Type 0 where
   pub to : s .at ≡ last + 1
   pub passed : Passed (λ k. entries true d ∷ k) (λ k. k) (λ t. entry-events what (event end-array last t)) r s
 
+-- the entries, or the fault of the text
 abbrev pub ReadsEntries : ℕ → Reader → Reader → Result (Unit {0}) TextFault → Type 0
 ReadsEntries d r s (Ok x) = EntriesRead d r s
 ReadsEntries d r s (Err e) = Halted (λ k. entries true d ∷ k) r s e

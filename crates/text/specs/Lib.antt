@@ -1,3 +1,4 @@
+pub mod Limits
 pub mod Bytes
 pub mod Faults
 pub mod Machine
@@ -6,3 +7,7 @@ pub mod Parts
 pub mod Ahead
 pub mod Strings
 pub mod Numbers
+pub mod Grammar
+pub mod Judged
+pub mod Canonical
+pub mod ReadsBack

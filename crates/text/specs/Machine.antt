@@ -10,6 +10,7 @@ use Rattle.std.specs.declared.result.Result.the-variants.{Ok, Err}
 use Rattle.text.specs.declared.fault.TextFault.{TextFault}
 use Rattle.text.specs.declared.fault.TextFault.the-variants.{Forbidden, TooDeep, TooLong}
 use Rattle.text.specs.Bytes.{between, white, digit, hexDigit, exponentMark, signMark, shortEscape}
+use Rattle.text.specs.Limits.{mostBytes, mostLevels}
 
 -- the tokens of a text, by their first bytes
 pub data Kind : Type 0 where
@@ -190,10 +191,10 @@ run [] i k = ends k i
 run (b ∷ bs) i k =
     elim (step k b) [ go l ↦ run bs (suc i) l | says x l ↦ event x i (run bs (suc i) l) | forbidden ↦ fault (Forbidden i) | too-deep ↦ fault (TooDeep i) ]
 
--- the tape of a text: one value, which may open 24 levels
+-- the tape of a text: one value, which may open as many levels as the limit allows
 unfoldable pub tape : List ℕ → Tape
-tape t = run t 0 (value 24 ∷ [])
+tape t = run t 0 (value mostLevels ∷ [])
 
--- what comes of a text: a text of more than 65536 bytes is not looked at
+-- what comes of a text: a text that is too long is not looked at
 unfoldable pub outcome : List ℕ → Result (Unit {0}) TextFault
-outcome t = elim (leb (length t) 65536) [ true ↦ ending (tape t) | false ↦ Err TooLong ]
+outcome t = elim (leb (length t) mostBytes) [ true ↦ ending (tape t) | false ↦ Err TooLong ]

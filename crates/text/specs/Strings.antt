@@ -44,10 +44,11 @@ unfoldable pub units : Mode → List ℕ → List ℕ
 units m [] = []
 units m (b ∷ bs) = before (adds m b) (units (goes m b) bs)
 
--- an escaped high surrogate, D800 to DBFF, and an escaped low one, DC00 to DFFF
+-- an escaped high surrogate, D800 to DBFF
 abbrev pub high : ℕ → Bool
 high u = between 55552 56575 u
 
+-- an escaped low surrogate, DC00 to DFFF
 abbrev pub low : ℕ → Bool
 low u = between 56576 57599 u
 

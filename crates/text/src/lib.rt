@@ -1,5 +1,6 @@
 // JSON after RFC 8259, in UTF-8 after RFC 3629: a reader that moves along the text and copies none of it.
 pub mod fault;
+pub mod laws;
 pub mod number;
 pub mod reader;
 pub mod scalar;
@@ -10,6 +11,7 @@ pub mod value;
 pub use fault::MAX_LENGTH;
 pub use fault::MAX_LEVELS;
 pub use fault::TextFault;
+pub use laws::written_reads_back;
 pub use number::integer;
 pub use reader::Reader;
 pub use string::spells;

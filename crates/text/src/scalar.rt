@@ -3,14 +3,12 @@ ghost use mathlib.Core.Path.{_≡_};
 ghost use mathlib.Core.Bool.{true, false};
 ghost use mathlib.Core.List.{List, _∷_};
 ghost use mathlib.Core.Logic.{_⊎_};
-ghost use Prim.Native.Nat.{ℕ, _+_, _<_, _≤_};
-ghost use lib.ListN.{length};
+ghost use Prim.Native.Nat.{ℕ, _<_};
 ghost use Rattle.text.specs.declared.fault.TextFault.the-variants.{Forbidden};
 ghost use Rattle.text.specs.Bytes.{white, digit};
 ghost use Rattle.text.specs.Machine.{Frame, Part, whole, fraction, exponent, value as a-value, first, digits, digit1, sign, after, chars, escape, hex, hexes, tail, tails, lead, event, number as a-number};
 ghost use Rattle.text.specs.Ahead.{Stack, Reads, ReadsTo, ReadsLetters, Onward, Passed, Inside, here, Skips, led};
 ghost use Rattle.std.specs.Vec.{made};
-ghost use Rattle.std.specs.Results.{Cases};
 use crate::fault::TextFault;
 use crate::reader::Reader;
 

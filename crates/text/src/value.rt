@@ -1,15 +1,19 @@
 // Values, objects and arrays.
 ghost use mathlib.Core.Path.{_≡_};
 ghost use mathlib.Core.Bool.{true, false};
-ghost use mathlib.Core.List.{List, _∷_};
+ghost use mathlib.Core.List.{_∷_};
 ghost use mathlib.Core.Logic.{_⊎_};
-ghost use Prim.Native.Nat.{ℕ, _+_, _<_, _≤_};
+ghost use Prim.Native.Nat.{ℕ, _<_, _≤_};
 ghost use lib.ListN.{length};
 ghost use Rattle.text.specs.declared.fault.TextFault.the-variants.{TooLong};
 ghost use Rattle.text.specs.Bytes.{white, digit};
 ghost use Rattle.text.specs.Machine.{member as a-member, members, entries, begin-object, begin-array, outcome};
-ghost use Rattle.text.specs.Ahead.{Stack, Reads, Opens, Inside, here, ReadsString, ReadsNumber, ReadsToken, ReadsTokenHere, ReadsValue, ReadsMembers, ReadsEntries, ReadsName, ReadsMember, ReadsEntry, Finishes};
+ghost use Rattle.text.specs.Ahead.{Reads, Opens, Inside, here, ReadsString, ReadsNumber, ReadsToken, ReadsTokenHere, ReadsValue, ReadsMembers, ReadsEntries, ReadsName, ReadsMember, ReadsEntry, Finishes};
+ghost use Rattle.text.specs.Grammar.{Text};
+ghost use Rattle.text.specs.Judged.{Judged};
+ghost use Rattle.text.specs.Limits.{mostBytes, mostLevels};
 ghost use Rattle.std.specs.Results.{Cases};
+ghost use Rattle.std.specs.declared.result.Result.the-variants.{Ok};
 use crate::fault::MAX_LENGTH;
 use crate::fault::MAX_LEVELS;
 use crate::fault::TextFault;
@@ -248,7 +252,7 @@ impl<'a> Reader<'a> {
 
 // Refuses a text that is too long.
 pub fn check_length(text: &[u8]) -> Result<(), TextFault>
-    ensures { λ r. ⌜ Cases r (λ _. length (now (text .entry)) ≤ 65536) (λ e. (65536 < length (now (text .entry))) × (e ≡ TooLong)) ⌝ }
+    ensures { λ r. ⌜ Cases r (λ _. length (now (text .entry)) ≤ mostBytes) (λ e. (mostBytes < length (now (text .entry))) × (e ≡ TooLong)) ⌝ }
 {
     if text.len() > MAX_LENGTH {
         return Err(TextFault::TooLong);
@@ -258,7 +262,9 @@ pub fn check_length(text: &[u8]) -> Result<(), TextFault>
 
 // Sees that a text is JSON, not too long and not too deep.
 pub fn check(text: &[u8]) -> Result<(), TextFault>
-    ensures { λ r. ⌜ r ≡ outcome (now (text .entry)) ⌝ }
+    ensures exact { λ r. ⌜ r ≡ outcome (now (text .entry)) ⌝ }
+    ensures judged { λ r. ⌜ Judged (now (text .entry)) r ⌝ }
+    ensures read { λ r. ⌜ (length (now (text .entry)) ≤ mostBytes → Text mostLevels (now (text .entry)) → r ≡ Ok tt) ⌝ }
 {
     check_length(text)?;
     let mut reader = Reader::new(text);

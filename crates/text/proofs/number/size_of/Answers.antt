@@ -14,15 +14,8 @@ use Rattle.std.proofs.shelf.Tests.{cases-lt, cond-false}
 use Rattle.std.specs.declared.option.Option.the-variants.{Some, None}
 use Rattle.text.specs.Bytes.{digit}
 use Rattle.text.specs.Numbers.{decimal, magnitude, upTo}
+use Rattle.text.proofs.Decimal.{decimal-digit, decimal-other, magnitude-start}
 use Rattle.text.proofs.number.size_of.Needs as need
-
-decimal-digit : (n b : ℕ) (bs : List ℕ) → digit b ≡ true → decimal n (b ∷ bs) ≡ decimal (n * 10 + (b - 48)) bs
-unfolding decimal
-decimal-digit n b bs e = rw (e, decimal) refl
-
-decimal-other : (n b : ℕ) (bs : List ℕ) → digit b ≡ false → decimal n (b ∷ bs) ≡ None
-unfolding decimal
-decimal-other n b bs e = rw (e, decimal) refl
 
 large-by : (m n b : ℕ) (bs : List ℕ) (x : Bool) → digit b ≡ x → upTo m (decimal (n * 10 + (b - 48)) bs) ≡ None → upTo m (decimal n (b ∷ bs)) ≡ None
 large-by m n b bs true e h = rw (decimal-digit n b bs e) h
@@ -34,15 +27,9 @@ unfolding decimal
 large m n [] h = grind (arith, tells)
 large m n (b ∷ bs) h = large-by m n b bs (digit b) refl (large m (n * 10 + (b - 48)) bs (omega arith))
 
--- without a zero before others
-start : (xs : List ℕ) → 0 < length xs → (getD xs 0 0 ≡ 48 → 1 < length xs → ⊥) → magnitude xs ≡ decimal 0 xs
-start [] h z = absurd (omega arith)
-start (b ∷ []) h z = refl
-start (b ∷ c ∷ cs) h z = let n : (b ≡ 48 → ⊥) = λ e. z e (omega arith) in cond-false (eqb b 48) _ _ (grind (arith, tells, n))
-
 -- what is left at the turn i, whether it is the first or a later one
 turn : (xs : List ℕ) (n i : ℕ) → i < length xs → (i ≡ 0 → n ≡ 0) → (0 < i → magnitude xs ≡ decimal n (drop i xs)) → (i ≡ 0 → getD xs i 0 ≡ 48 → 1 < length xs → ⊥) → magnitude xs ≡ decimal n (drop i xs)
-turn xs n zero h a b z = rw (a refl) (start xs (omega arith) (z refl))
+turn xs n zero h a b z = rw (a refl) (magnitude-start xs (omega arith) (z refl))
 turn xs n (suc i) h a b z = b (omega arith)
 
 more : (xs : List ℕ) (n i : ℕ) → i < length xs → digit (getD xs i 0) ≡ true → magnitude xs ≡ decimal n (drop i xs) → magnitude xs ≡ decimal (n * 10 + (getD xs i 0 - 48)) (drop (i + 1) xs)

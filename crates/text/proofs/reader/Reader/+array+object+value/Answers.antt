@@ -16,7 +16,8 @@ use Rattle.text.specs.Machine.{Tape, value, members, entries, event, end-objec
 use Rattle.text.specs.Tree.{Members, Entries, scalar, object, array, no-member, no-entry, events, member-events, entry-events}
 use Rattle.text.specs.Ahead.{Stack, Passed, Onward, TokenRead, ValueRead, MembersRead, ReadsMembers, EntriesRead, ReadsEntries, NameRead, ReadsMember, ReadsEntry}
 use Rattle.text.proofs.Steps.{stay, then-passed, passed-halted, broken, on, on-halted}
-use Rattle.text.proofs.Frames.{quiet-members, quiet-entries, add-member, add-member-events, add-entry, add-entry-events}
+use Rattle.text.proofs.Extents.{value-end}
+use Rattle.text.proofs.Frames.{same-ending, same-ending-members, same-ending-entries, add-member, add-member-events, add-entry, add-entry-events}
 use Rattle.text.proofs.reader.Reader.+array+object+value.Needs as need
 use Rattle.text.proofs.reader.Reader.+array+object+value.Needs.{value-in-Object·in-Continue-object, value-in-Array·in-Continue-array, value-in-rest}
 
@@ -58,10 +59,10 @@ unfolding entry-events
 array-loop-self-holds t c = (no-entry, stay)
 
 pub array-returns-in-Break-entry : need.array-returns-in-Break-entry
-array-returns-in-Break-entry t c = broken (ReadsEntries _ _ _) _ (c .from-residual .ensures .1) (passed-halted (quiet-entries (c .loop-self .inv .0)) (c .loop-self .inv .1) (c .in-Break-entry .ensures tt (c .args .levels)))
+array-returns-in-Break-entry t c = broken (ReadsEntries _ _ _) _ (c .from-residual .ensures .1) (passed-halted (same-ending-entries (c .loop-self .inv .0)) (c .loop-self .inv .1) (c .in-Break-entry .ensures tt (c .args .levels)))
 
 pub array-returns-in-Break-value : need.array-returns-in-Break-value
-array-returns-in-Break-value t c = broken (ReadsEntries _ _ _) _ (c .from-residual-in-Break-value .ensures .1) (passed-halted (quiet-entries (c .loop-self .inv .0)) (then-passed (c .loop-self .inv .1) (entry-goes _ _ _ _ (c .if-branch .taken) (c .in-Continue-entry .ensures tt) (c .args .levels))) (on-halted (λ k. entries false (c .args .levels) ∷ k) (c .in-Break-value .ensures tt)))
+array-returns-in-Break-value t c = broken (ReadsEntries _ _ _) _ (c .from-residual-in-Break-value .ensures .1) (passed-halted (same-ending-entries (c .loop-self .inv .0)) (then-passed (c .loop-self .inv .1) (entry-goes _ _ _ _ (c .if-branch .taken) (c .in-Continue-entry .ensures tt) (c .args .levels))) (on-halted (λ k. entries false (c .args .levels) ∷ k) (c .in-Break-value .ensures tt)))
 
 pub array-loop-self-less : need.array-loop-self-less
 array-loop-self-less t c = nearer (entry-goes _ _ _ _ (c .if-branch .taken) (c .in-Continue-entry .ensures tt) (c .args .levels)) (c .in-Continue-value .ensures tt)
@@ -79,12 +80,12 @@ unfolding member-events
 object-loop-self-holds t c = (no-member, stay)
 
 pub object-returns-in-Break-member : need.object-returns-in-Break-member
-object-returns-in-Break-member t c = broken (ReadsMembers _ _ _) _ (c .from-residual .ensures .1) (passed-halted (quiet-members (c .loop-self .inv .0)) (c .loop-self .inv .1) (c .in-Break-member .ensures tt (c .args .levels)))
+object-returns-in-Break-member t c = broken (ReadsMembers _ _ _) _ (c .from-residual .ensures .1) (passed-halted (same-ending-members (c .loop-self .inv .0)) (c .loop-self .inv .1) (c .in-Break-member .ensures tt (c .args .levels)))
 
 pub object-returns-in-Break-value : need.object-returns-in-Break-value
 object-returns-in-Break-value t c =
     let n = member-goes _ _ _ _ _ (c .in-Named .is) (c .in-Continue-member .ensures tt) in
-    broken (ReadsMembers _ _ _) _ (c .from-residual-in-Break-value .ensures .1) (passed-halted (λ u. quiet-members (c .loop-self .inv .0) (event name _ u)) (then-passed (c .loop-self .inv .1) (n .passed (c .args .levels))) (on-halted (λ k. members false (c .args .levels) ∷ k) (c .in-Break-value .ensures tt)))
+    broken (ReadsMembers _ _ _) _ (c .from-residual-in-Break-value .ensures .1) (passed-halted (λ u. same-ending-members (c .loop-self .inv .0) (event name _ u)) (then-passed (c .loop-self .inv .1) (n .passed (c .args .levels))) (on-halted (λ k. members false (c .args .levels) ∷ k) (c .in-Break-value .ensures tt)))
 
 pub object-loop-self-less : need.object-loop-self-less
 object-loop-self-less t c = nearer (member-goes _ _ _ _ _ (c .in-Named .is) (c .in-Continue-member .ensures tt) .passed (c .args .levels)) (c .in-Continue-value .ensures tt)
@@ -99,11 +100,11 @@ object-returns t c =
 
 object-whole : (d : ℕ) (r s u : Reader) (i : ℕ) → TokenRead d r s Object i → MembersRead (d - 1) s u → ValueRead d r u Object i
 unfolding events
-object-whole d r s u i p q = record { from = p .from; moves = omega (arith, p .moves, q .passed .forth); what = object i (q .what) (q .last); starts = (refl, refl); holds = tt; passed = then-passed (p .passed) (q .passed) }
+object-whole d r s u i p q = record { from = p .from; moves = omega (arith, p .moves, q .passed .forth); what = object i (q .what) (q .last); starts = (refl, refl); to = value-end d (same-ending (object i (q .what) (q .last))) (then-passed (p .passed) (q .passed)); holds = tt; passed = then-passed (p .passed) (q .passed) }
 
 array-whole : (d : ℕ) (r s u : Reader) (i : ℕ) → TokenRead d r s Array i → EntriesRead (d - 1) s u → ValueRead d r u Array i
 unfolding events
-array-whole d r s u i p q = record { from = p .from; moves = omega (arith, p .moves, q .passed .forth); what = array i (q .what) (q .last); starts = (refl, refl); holds = tt; passed = then-passed (p .passed) (q .passed) }
+array-whole d r s u i p q = record { from = p .from; moves = omega (arith, p .moves, q .passed .forth); what = array i (q .what) (q .last); starts = (refl, refl); to = value-end d (same-ending (array i (q .what) (q .last))) (then-passed (p .passed) (q .passed)); holds = tt; passed = then-passed (p .passed) (q .passed) }
 
 object-value : (d : ℕ) (r s u : Reader) (x : Token) (i : ℕ) → x ≡ Object → TokenRead d r s x i → MembersRead (d - 1) s u → ValueRead d r u x i
 object-value d r s u x i e p q = let o : TokenRead d r s Object i = rw e at p in rw e (object-whole d r s u i o q)
@@ -115,11 +116,11 @@ scalar-value : (d : ℕ) (r s : Reader) (x : Token) (i : ℕ) → (x ≡ Object 
 unfolding events
 scalar-value d r s Object i n m p = absurd (n refl)
 scalar-value d r s Array i n m p = absurd (m refl)
-scalar-value d r s (String y) i n m p = record { from = p .from; moves = p .moves; what = scalar string i; starts = (refl, refl); holds = p .token .holds; passed = p .passed }
-scalar-value d r s (Number y) i n m p = record { from = p .from; moves = p .moves; what = scalar number i; starts = (refl, refl); holds = p .token .holds; passed = p .passed }
-scalar-value d r s True i n m p = record { from = p .from; moves = p .moves; what = scalar literal-true i; starts = (refl, refl); holds = tt; passed = p .passed }
-scalar-value d r s False i n m p = record { from = p .from; moves = p .moves; what = scalar literal-false i; starts = (refl, refl); holds = tt; passed = p .passed }
-scalar-value d r s Null i n m p = record { from = p .from; moves = p .moves; what = scalar literal-null i; starts = (refl, refl); holds = tt; passed = p .passed }
+scalar-value d r s (String y) i n m p = record { from = p .from; moves = p .moves; what = scalar string i; starts = (refl, refl); to = value-end d (λ _. refl) (p .passed); holds = p .token .holds; passed = p .passed }
+scalar-value d r s (Number y) i n m p = record { from = p .from; moves = p .moves; what = scalar number i; starts = (refl, refl); to = value-end d (λ _. refl) (p .passed); holds = p .token .holds; passed = p .passed }
+scalar-value d r s True i n m p = record { from = p .from; moves = p .moves; what = scalar literal-true i; starts = (refl, refl); to = value-end d (λ _. refl) (p .passed); holds = tt; passed = p .passed }
+scalar-value d r s False i n m p = record { from = p .from; moves = p .moves; what = scalar literal-false i; starts = (refl, refl); to = value-end d (λ _. refl) (p .passed); holds = tt; passed = p .passed }
+scalar-value d r s Null i n m p = record { from = p .from; moves = p .moves; what = scalar literal-null i; starts = (refl, refl); to = value-end d (λ _. refl) (p .passed); holds = tt; passed = p .passed }
 
 pub value-returns : need.value-returns
 value-returns t c = elim (c .match-token .came) [

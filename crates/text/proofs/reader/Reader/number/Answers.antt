@@ -12,14 +12,14 @@ use Rattle.text.specs.Parts.{scalarLength, numberPart}
 use Rattle.text.specs.Ahead.{here, Inside, Stack, Passed, Onward, NumberRead, ReadsNumber}
 use Rattle.text.proofs.Steps.{then-passed, passed-halted, broken}
 use Rattle.text.proofs.Frames.{number-says}
-use Rattle.text.proofs.Extents.{scalar-end, scalar-some}
+use Rattle.text.proofs.Extents.{value-end, scalar-some}
 use Rattle.text.proofs.reader.Reader.number.Needs as need
 
 number-read : (r s : Reader) → Inside r → (here r ≡ 45) ⊎ (digit (here r) ≡ true) → ((d : ℕ) → Passed (λ k. value d ∷ k) (λ k. k) (event number (r .at)) r s) → NumberRead r s (take (s .at - r .at) (drop (r .at) (s .text .now)))
 unfolding numberPart
 number-read r s h b p =
     let t = drop (r .at) (r .text .now) in
-    let to : s .at ≡ r .at + scalarLength t = scalar-end (λ _. refl) (p 0) in
+    let to : s .at ≡ r .at + scalarLength t = value-end 0 (λ _. refl) (p 0) in
     let n : s .at - r .at ≡ scalarLength t = omega arith in
     let says-number = number-says (here r) b 0 (literal [] ∷ []) in
     let some : 0 < scalarLength t = scalar-some r number (says-number .0) h (says-number .1) in

@@ -10,7 +10,7 @@ use Rattle.text.specs.Machine.{Kind, Frame, value, chars, says, event, step, s
 use Rattle.text.specs.Parts.{scalarLength, stringPart}
 use Rattle.text.specs.Ahead.{here, Inside, Stack, Passed, Onward, Halted, StringRead, ReadsString}
 use Rattle.text.proofs.Steps.{token, then-passed, passed-halted, broken, on, on-halted}
-use Rattle.text.proofs.Extents.{scalar-end}
+use Rattle.text.proofs.Extents.{value-end}
 use Rattle.text.proofs.reader.Reader.string.Needs as need
 
 module _ (r u s : Reader) (q : ℕ) (inside : Inside r) (quote : here r ≡ 34) (same : u .text ≡ r .text) (next : u .at ≡ r .at + 1) where
@@ -21,7 +21,7 @@ module _ (r u s : Reader) (q : ℕ) (inside : Inside r) (quote : here r ≡ 34) 
   unfolding stringPart step
   string-read p e h =
       let t = drop (r .at) (r .text .now) in
-      let to : s .at ≡ r .at + scalarLength t = scalar-end (λ _. refl) (string-passed p string (λ k. value 0 ∷ k) (λ k. k) (λ k. refl)) in
+      let to : s .at ≡ r .at + scalarLength t = value-end 0 (λ _. refl) (string-passed p string (λ k. value 0 ∷ k) (λ k. k) (λ k. refl)) in
       let n : q - (r .at + 1) ≡ scalarLength t - 2 = omega arith in
       record {
         holds = ap (λ x. take (q - (r .at + 1)) (drop (r .at + 1) (x .now))) (p .same ∙ same) ∙ ap (λ m. take m (drop (r .at + 1) (r .text .now))) n ∙ ap (take (scalarLength t - 2)) (sym (drop-drop 1 (r .at) (r .text .now)));
