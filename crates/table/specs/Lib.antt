@@ -1,5 +1,9 @@
 pub mod Faults
+pub mod Limits
 pub mod Levels
+pub mod Words
+pub mod Drafts
+pub mod Steps
 pub mod Places
 pub mod Moves
 pub mod Task

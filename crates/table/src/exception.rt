@@ -1,4 +1,7 @@
 // What is to be done where the scanner can't follow an object.
+ghost use mathlib.Core.Path.{_≡_};
+ghost use Rattle.text.specs.Strings.{stands};
+ghost use Rattle.table.specs.Words.{exceptionSpelled};
 use text::spells;
 
 #[derive(Clone, Copy, PartialEq, Eq, Debug)]
@@ -10,7 +13,9 @@ pub enum Exception {
 
 impl Exception {
     // The exception that a string names.
-    pub fn spelled(raw: &[u8]) -> Option<Exception> {
+    pub fn spelled(raw: &[u8]) -> Option<Exception>
+        ensures { λ r. ⌜ r ≡ exceptionSpelled (stands (now (raw .entry))) ⌝ }
+    {
         if spells(raw, b"fail") {
             return Some(Exception::Fail);
         }

@@ -1,7 +1,9 @@
 // The member names that some level of a task knows.
 ghost use mathlib.Core.Path.{_≡_};
 ghost use Prim.Native.Nat.{_<_};
+ghost use Rattle.text.specs.Strings.{stands};
 ghost use Rattle.table.specs.Levels.{keyCode, isArrayName};
+ghost use Rattle.table.specs.Words.{keySpelled, KeysApart};
 use names::position;
 
 #[derive(Clone, Copy, PartialEq, Eq, Debug)]
@@ -51,7 +53,9 @@ const KEYS: [Key; 15] = [
 
 impl Key {
     // The member name that a string spells.
-    pub fn spelled(raw: &[u8]) -> Option<Key> {
+    pub fn spelled(raw: &[u8]) -> Option<Key>
+        ensures { λ r. ⌜ r ≡ keySpelled (stands (now (raw .entry))) ⌝ }
+    {
         match position(&KEY_LETTERS, &KEY_STARTS, raw) {
             Some(i) => Some(KEYS[i]),
             None => None,

@@ -2,7 +2,7 @@
 ghost use mathlib.Core.Path.{_≡_};
 ghost use Prim.Native.Nat.{suc, _<_, _≤_};
 ghost use Rattle.std.specs.Options.{Cases};
-ghost use Rattle.table.specs.Levels.{levelCode};
+ghost use Rattle.table.specs.Levels.{levelCode, part, knows, limit, allows, absentWeight};
 use crate::exception::Exception;
 use crate::exception::ExceptionPartialEq;
 use crate::keys::Key;
@@ -35,7 +35,8 @@ impl Level {
 
     // The level of the entries of the array called `key`, if it is the array of this level.
     pub fn part(self, key: Key) -> Option<Level>
-        ensures { λ r. ⌜ Cases r (Unit {0}) (λ p. (levelCode p ≡ suc (levelCode self)) × (levelCode p ≤ 6)) ⌝ }
+        ensures value { λ r. ⌜ r ≡ part self key ⌝ }
+        ensures below { λ r. ⌜ Cases r (Unit {0}) (λ p. (levelCode p ≡ suc (levelCode self)) × (levelCode p ≤ 6)) ⌝ }
     {
         match (self, key) {
             (Level::Task, Key::Actions) => Some(Level::Action),
@@ -49,7 +50,9 @@ impl Level {
     }
 
     // Whether its objects know a member that is no array.
-    pub fn knows(self, key: Key) -> bool {
+    pub fn knows(self, key: Key) -> bool
+        ensures { λ r. ⌜ r ≡ knows self key ⌝ }
+    {
         match key {
             Key::Comment | Key::Exception | Key::Vendor => self != Level::Task,
             Key::Name => matches!(self, Level::Stream | Level::Source | Level::PixelFormat),
@@ -64,7 +67,8 @@ impl Level {
 
     // How many objects of this level an array may have.
     pub fn limit(self) -> u32
-        ensures { λ r. ⌜ r ≤ 37 ⌝ }
+        ensures value { λ r. ⌜ r ≡ limit self ⌝ }
+        ensures bound { λ r. ⌜ r ≤ 37 ⌝ }
     {
         match self {
             Level::Task => 1,
@@ -78,12 +82,16 @@ impl Level {
     }
 
     // Whether its objects may have this exception: an action has no next stream to go to.
-    pub fn allows(self, exception: Exception) -> bool {
+    pub fn allows(self, exception: Exception) -> bool
+        ensures { λ r. ⌜ r ≡ allows self exception ⌝ }
+    {
         self != Level::Action || exception != Exception::NextStream
     }
 
     // What an object without parts weighs beyond itself: the default parts that stand in for them.
-    pub fn weight_of_absent_parts(self) -> usize {
+    pub fn weight_of_absent_parts(self) -> usize
+        ensures { λ r. ⌜ r ≡ absentWeight self ⌝ }
+    {
         match self {
             Level::Action => 3,
             Level::Stream => 2,

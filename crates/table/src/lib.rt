@@ -6,6 +6,7 @@ pub mod inside;
 pub mod keys;
 pub mod level;
 pub mod limits;
+pub mod meaning;
 pub mod place;
 pub mod read;
 pub mod record;

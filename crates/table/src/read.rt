@@ -17,6 +17,7 @@ use crate::keys::KeyPartialEq;
 use crate::level::Level;
 use crate::level::LevelPartialEq;
 use crate::limits::MAX_WEIGHT;
+use crate::meaning::Meaning;
 use crate::place::Place;
 use crate::record::Record;
 use crate::tally::Tally;
@@ -46,7 +47,7 @@ fn reserve(level: Level, tally: Tally) -> Tally
 }
 
 // A string member of an object.
-fn string_member<'a>(reader: &mut Reader<'a>, levels: u8, draft: &mut Draft<'a>, key: Key) -> Result<(), TableFault>
+fn string_member<'a>(reader: &mut Reader<'a>, levels: u8, draft: &mut Draft, key: Key) -> Result<(), TableFault>
     ensures level { λ _. ⌜ now (draft .exit) .level ≡ now (draft .entry) .level ⌝ }
     ensures onward { λ r. ⌜ made r (λ _. Onward (now (reader .entry)) (now (reader .exit))) ⌝ }
 {
@@ -54,11 +55,11 @@ fn string_member<'a>(reader: &mut Reader<'a>, levels: u8, draft: &mut Draft<'a>,
     let Token::String(raw) = token.value else {
         return Err(TableFault::Form(FormRule::WrongKind, token.offset));
     };
-    draft.take(key, token, raw)
+    draft.take(key, raw, token.offset)
 }
 
 // The value of the member that is called `name`.
-fn member<'a>(reader: &mut Reader<'a>, place: &mut Place, table: &mut [Record], levels: u8, draft: &mut Draft<'a>, name: Placed<&[u8]>, tally: Tally) -> Result<Tally, TableFault>
+fn member<'a>(reader: &mut Reader<'a>, place: &mut Place, table: &mut [Record], levels: u8, draft: &mut Draft, name: Placed<&[u8]>, tally: Tally) -> Result<Tally, TableFault>
     ensures place { λ _. ⌜ now (place .exit) ≡ now (place .entry) ⌝ }
     ensures level { λ _. ⌜ now (draft .exit) .level ≡ now (draft .entry) .level ⌝ }
     ensures onward { λ r. ⌜ made r (λ _. Onward (now (reader .entry)) (now (reader .exit))) ⌝ }
@@ -83,7 +84,8 @@ fn member<'a>(reader: &mut Reader<'a>, place: &mut Place, table: &mut [Record], 
     }
     draft.note(key, name.offset)?;
     if key == Key::Value {
-        draft.word = Some(reader.value(levels)?);
+        let token = reader.value(levels)?;
+        draft.word = Some(Placed { value: Meaning::of_value(token.value), offset: token.offset });
         return Ok(tally);
     }
     string_member(reader, levels, draft, key)?;
@@ -91,7 +93,7 @@ fn member<'a>(reader: &mut Reader<'a>, place: &mut Place, table: &mut [Record], 
 }
 
 // The array of an object's parts.
-fn array<'a>(reader: &mut Reader<'a>, place: &mut Place, table: &mut [Record], levels: u8, draft: &mut Draft<'a>, part: Level, tally: Tally) -> Result<Tally, TableFault>
+fn array<'a>(reader: &mut Reader<'a>, place: &mut Place, table: &mut [Record], levels: u8, draft: &mut Draft, part: Level, tally: Tally) -> Result<Tally, TableFault>
     ensures place { λ _. ⌜ now (place .exit) ≡ now (place .entry) ⌝ }
     ensures level { λ _. ⌜ now (draft .exit) .level ≡ now (draft .entry) .level ⌝ }
     ensures onward { λ r. ⌜ made r (λ _. Onward (now (reader .entry)) (now (reader .exit))) ⌝ }
@@ -104,7 +106,7 @@ fn array<'a>(reader: &mut Reader<'a>, place: &mut Place, table: &mut [Record], l
     entries(reader, place, table, levels.saturating_sub(1), draft, part, tally)
 }
 
-fn entries<'a>(reader: &mut Reader<'a>, place: &mut Place, table: &mut [Record], levels: u8, draft: &mut Draft<'a>, part: Level, tally: Tally) -> Result<Tally, TableFault>
+fn entries<'a>(reader: &mut Reader<'a>, place: &mut Place, table: &mut [Record], levels: u8, draft: &mut Draft, part: Level, tally: Tally) -> Result<Tally, TableFault>
     ensures place { λ _. ⌜ now (place .exit) ≡ now (place .entry) ⌝ }
     ensures level { λ _. ⌜ now (draft .exit) .level ≡ now (draft .entry) .level ⌝ }
     ensures onward { λ r. ⌜ made r (λ _. Onward (now (reader .entry)) (now (reader .exit))) ⌝ }
@@ -150,7 +152,7 @@ fn object<'a>(reader: &mut Reader<'a>, place: &mut Place, table: &mut [Record], 
 }
 
 // The members of an object up to its end; `before` of the table was used before the object.
-fn members<'a>(reader: &mut Reader<'a>, place: &mut Place, table: &mut [Record], levels: u8, draft: Draft<'a>, before: usize, tally: Tally) -> Result<Tally, TableFault>
+fn members<'a>(reader: &mut Reader<'a>, place: &mut Place, table: &mut [Record], levels: u8, draft: Draft, before: usize, tally: Tally) -> Result<Tally, TableFault>
     requires { ⌜ before ≤ tally .weight ⌝ }
     ensures place { λ _. ⌜ now (place .exit) ≡ now (place .entry) ⌝ }
     ensures onward { λ r. ⌜ made r (λ _. Onward (now (reader .entry)) (now (reader .exit))) ⌝ }
