@@ -6,6 +6,7 @@ use lib.ListN.{length, drop, getD}
 use Rattle.std.proofs.shelf.Lists.{drop-more, drop-all}
 use Rattle.std.specs.declared.option.Option.{Option}
 use Rattle.std.specs.declared.option.Option.the-variants.{Some, None}
+use Rattle.std.specs.declared.result.Result.{Result}
 use Rattle.text.specs.declared.token.Placed.{Placed}
 use Rattle.table.specs.declared.exception.Exception.{Exception}
 use Rattle.table.specs.declared.exception.Exception.the-variants.{Fail, Ignore, NextStream}
@@ -13,9 +14,15 @@ use Rattle.table.specs.declared.place.Place.{Place}
 use Rattle.table.specs.declared.record.Head.{Head}
 use Rattle.table.specs.declared.record.Record.{Record}
 use Rattle.table.specs.Views.{streamOf, streamsIn}
+use Rattle.scanner.specs.declared.plan.Item.{Item}
+use Rattle.scanner.specs.Meaning.{Catalogue}
 use Rattle.negotiation.specs.declared.trouble.Trouble.{Trouble}
 use Rattle.negotiation.specs.Exceptions.{Forced, withForce, withForces}
+use Rattle.negotiation.specs.Troubles.{streamTroubles}
+use Rattle.negotiation.specs.Plans.{streamItems}
+use Rattle.negotiation.specs.Tellings.{Went}
 use Rattle.negotiation.specs.Endings.{Ending, met, unmet, failing, ranOut, decide, turn, onward, atEnd, ending}
+use Rattle.negotiation.proofs.Goings.{went-like}
 use Rattle.negotiation.proofs.Deciding.{some-decides}
 use Rattle.negotiation.proofs.Steps.{NoStream, NoAction, streams-over}
 
@@ -64,3 +71,8 @@ module _ (f : Forced → List Trouble) (action : Option (Placed Exception)) (ent
         place = p ∙ t .place;
         same = sym (ap (λ o. onward o x (λ v. endingOf f action entries (Some v) rest)) d ∙ by-turn x u (endingOf f action entries (Some u) rest) (u .exception) refl (some-decides (f x) u d .counts) n) ∙ t .same;
       }
+
+-- what was gone through of a stream, at the place, with the exception and with the records of the loop
+pub tried : (k : Catalogue) (action : Option (Placed Exception)) (entries : ℕ) (h : Head) {at home : Place} {vs rest : List Record} {force : Exception} {new : List Item} {r : Result (Unit {0}) Trouble} → at ≡ home → vs ≡ rest → force ≡ withForce action entries (streamOf h rest) .force → Went (streamTroubles k at (record { stream = streamOf h vs; force = force })) (streamItems k (streamOf h vs)) [] new r → Went (streamTroubles k home (withForce action entries (streamOf h rest))) (streamItems k (streamOf h rest)) [] new r
+tried k action entries h p q e w =
+    went-like _ _ _ _ [] _ _ (λ j. streamTroubles k (p j) (record { stream = streamOf h (q j); force = e j })) (λ j. streamItems k (streamOf h (q j))) w

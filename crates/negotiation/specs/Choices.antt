@@ -46,20 +46,25 @@ Chooses k p vs Unset = vs ≡ []
 Chooses k p vs (Taken x) = TakenBy k p vs x
 Chooses k p vs (Closed h) = ClosedBy k p vs h
 
--- the same, computed along the list: last is what comes of no further value
+-- The same, computed along the list.
+
+-- an offered value is taken, else the rest decides
 abbrev pub picking : Option Value → Choice → Choice
 picking (Some x) rest = Taken x
 picking None rest = rest
 
+-- a value that is not offered closes the list where it has an exception of its own, else the rest decides
 abbrev pub closing : Option (Placed Exception) → Choice → Choice → Choice
 closing (Some e) here rest = here
 closing None here rest = rest
 
+-- what comes of the values, where last comes of no further value
 abbrev pub chosenFrom : Catalogue → Point → Choice → List ValueObject → Choice
 chosenFrom k p last [] = last
 chosenFrom k p last (v ∷ vs) =
     picking (valueMeant k p (v .word .value)) (closing (v .head .exception) (Closed (v .head)) (chosenFrom k p (Closed (v .head)) vs))
 
+-- what comes of all the values of an attribute
 abbrev pub chosen : Catalogue → Point → List ValueObject → Choice
 chosen k p vs = chosenFrom k p Unset vs
 

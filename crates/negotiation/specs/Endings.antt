@@ -67,9 +67,11 @@ pub data Ending (X : Type 0) : Type 0 where
   met : X → Ending X
   unmet : Rejection → Ending X
 
+-- an action or a stream fails by this trouble
 abbrev pub failing : Trouble → Rejection
 failing t = record { refusal = Fails; trouble = t }
 
+-- no stream is left, and this trouble decided the last
 abbrev pub ranOut : Trouble → Rejection
 ranOut t = record { refusal = NoStreamLeft; trouble = t }
 
@@ -82,30 +84,34 @@ Ends f xs (unmet r) = ((t : Trouble) × StoppedBy f xs t × (r ≡ failing t)) �
 
 -- The same, computed along the list.
 
--- the deciding trouble, if there is one
+-- a trouble with this exception decides, or the rest does
 abbrev pub firstOf : Exception → Trouble → Option Trouble → Option Trouble
 firstOf Fail t rest = Some t
 firstOf Ignore t rest = rest
 firstOf NextStream t rest = Some t
 
+-- the deciding trouble, if there is one
 abbrev pub decide : List Trouble → Option Trouble
 decide [] = None
 decide (t ∷ ts) = firstOf (t .exception) t (decide ts)
 
--- the ending; last: what decided the stream before
+-- a stream that is decided by t, with this exception, stops or is passed over
 abbrev pub turn : {X : Type 0} → Exception → X → Trouble → Ending X → Ending X
 turn Fail x t v = unmet (failing t)
 turn Ignore x t v = met x
 turn NextStream x t v = v
 
+-- a stream that nothing decides fits
 abbrev pub onward : {X : Type 0} → Option Trouble → X → (Trouble → Ending X) → Ending X
 onward None x next = met x
 onward (Some t) x next = turn (t .exception) x t (next t)
 
+-- no stream is left: the default one, or what decided the last one
 abbrev pub atEnd : {X : Type 0} → Option Trouble → Ending X
 atEnd None = byDefault
 atEnd (Some t) = unmet (ranOut t)
 
+-- the ending of these streams; last has what decided the stream before them, if there was one
 abbrev pub ending : {X : Type 0} → (X → List Trouble) → Option Trouble → List X → Ending X
 ending f last [] = atEnd last
 ending f last (x ∷ xs) = onward (decide (f x)) x (λ t. ending f (Some t) xs)

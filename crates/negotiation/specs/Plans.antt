@@ -31,6 +31,7 @@ lineOf p Unset = []
 lineOf p (Taken v) = Item.Line p v ∷ []
 lineOf p (Closed h) = []
 
+-- the line of an attribute: none where it is not offered or no value is taken
 abbrev pub attributeItems : Catalogue → Source → PixelFormat → AttributeObject → List Item
 attributeItems k s f o = within (pointMeant k s f (o .word .value)) (λ p. lineOf p (chosen k p (o .parts)))
 
@@ -39,21 +40,24 @@ abbrev pub attributesItems : Catalogue → Source → PixelFormat → List Attri
 attributesItems k s f [] = []
 attributesItems k s f (o ∷ os) = attributeItems k s f o ++ attributesItems k s f os
 
--- a pair and its lines
+-- a pair and its lines: nothing where the format is not offered
 abbrev pub formatItems : Catalogue → Source → FormatObject → List Item
 formatItems k s o = within (formatMeant k s (o .word)) (λ f. Item.Pair s f ∷ attributesItems k s f (o .parts))
 
+-- the pairs of a source, each with its lines
 abbrev pub formatsItems : Catalogue → Source → List FormatObject → List Item
 formatsItems k s [] = []
 formatsItems k s (o ∷ os) = formatItems k s o ++ formatsItems k s os
 
+-- a source with its home format
 abbrev pub homePair : Catalogue → Source → List Item
 homePair k s = Item.Pair s (k .homeFormat s) ∷ []
 
--- a source with its pairs, or with its home format where there are none
+-- a source with its pairs, or with its home format where there are none: nothing where the source is not offered
 abbrev pub sourceItems : Catalogue → SourceObject → List Item
 sourceItems k o = within (sourceMeant k (o .word)) (λ s. Item.Source s ∷ orElse (homePair k s) (formatsItems k s (o .parts)))
 
+-- the sources of a stream, each with its pairs
 abbrev pub sourcesItems : Catalogue → List SourceObject → List Item
 sourcesItems k [] = []
 sourcesItems k (o ∷ os) = sourceItems k o ++ sourcesItems k os

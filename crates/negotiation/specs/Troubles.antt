@@ -51,43 +51,52 @@ reached t (Some x) inside = inside x
 unfoldable pub objectTroubles : {X : Type 0} → Bool → Trouble → Option X → (X → List Trouble) → List Trouble
 objectTroubles unknown t o inside = oneIf unknown t ++ reached t o inside
 
--- Of each level: the troubles of an object with this path and this exception in force, those of an object
--- inside one with this path and this exception in force, and those of a list of such objects.
+-- For each level there are the troubles of an object with this path and this exception in force, then those of an object
+-- inside one with this path and this exception in force, and then those of a list of such objects.
 
+-- an attribute: its unknown member, its word, and that none of its values is taken
 abbrev pub attributeHere : Catalogue → Source → PixelFormat → Place → Exception → AttributeObject → List Trouble
 attributeHere k s f p e o =
     objectTroubles (o .head .unknown) (troubleAt p (o .head) e) (pointMeant k s f (o .word .value)) (λ x. choiceTroubles p e (chosen k x (o .parts)))
 
+-- an attribute of a pixelFormat object at p with e in force
 abbrev pub attributeTroubles : Catalogue → Source → PixelFormat → Place → Exception → AttributeObject → List Trouble
 attributeTroubles k s f p e o = attributeHere k s f (entered p Level.Attribute (o .head .index)) (inForce (o .head .exception) e) o
 
+-- the attributes of a pixelFormat object
 abbrev pub attributesTroubles : Catalogue → Source → PixelFormat → Place → Exception → List AttributeObject → List Trouble
 attributesTroubles k s f p e [] = []
 attributesTroubles k s f p e (o ∷ os) = attributeTroubles k s f p e o ++ attributesTroubles k s f p e os
 
+-- a pixelFormat object: its unknown member, its word, and what its attributes have
 abbrev pub formatHere : Catalogue → Source → Place → Exception → FormatObject → List Trouble
 formatHere k s p e o =
     objectTroubles (o .head .unknown) (troubleAt p (o .head) e) (formatMeant k s (o .word)) (λ f. attributesTroubles k s f p e (o .parts))
 
+-- a pixelFormat object of a source at p with e in force
 abbrev pub formatTroubles : Catalogue → Source → Place → Exception → FormatObject → List Trouble
 formatTroubles k s p e o = formatHere k s (entered p Level.PixelFormat (o .head .index)) (inForce (o .head .exception) e) o
 
+-- the pixelFormat objects of a source
 abbrev pub formatsTroubles : Catalogue → Source → Place → Exception → List FormatObject → List Trouble
 formatsTroubles k s p e [] = []
 formatsTroubles k s p e (o ∷ os) = formatTroubles k s p e o ++ formatsTroubles k s p e os
 
+-- a source: its unknown member, its word, and what its pixelFormat objects have
 abbrev pub sourceHere : Catalogue → Place → Exception → SourceObject → List Trouble
 sourceHere k p e o =
     objectTroubles (o .head .unknown) (troubleAt p (o .head) e) (sourceMeant k (o .word)) (λ s. formatsTroubles k s p e (o .parts))
 
+-- a source of a stream at p with e in force
 abbrev pub sourceTroubles : Catalogue → Place → Exception → SourceObject → List Trouble
 sourceTroubles k p e o = sourceHere k (entered p Level.Source (o .head .index)) (inForce (o .head .exception) e) o
 
+-- the sources of a stream
 abbrev pub sourcesTroubles : Catalogue → Place → Exception → List SourceObject → List Trouble
 sourcesTroubles k p e [] = []
 sourcesTroubles k p e (o ∷ os) = sourceTroubles k p e o ++ sourcesTroubles k p e os
 
--- a stream has no word
+-- a stream: its unknown member, and what its sources have; it has no word
 abbrev pub streamHere : Catalogue → Place → Exception → StreamObject → List Trouble
 streamHere k p e o = oneIf (o .head .unknown) (troubleAt p (o .head) e) ++ sourcesTroubles k p e (o .parts)
 

@@ -34,18 +34,21 @@ outcomeOf k byDefault = planned (defaultItems k)
 outcomeOf k (met x) = planned (streamItems k (x .stream))
 outcomeOf k (unmet r) = rejected r
 
--- a word other than configure; no word means configure
+-- a word other than configure
 abbrev pub isOther : Verb → Bool
 isOther Configure = false
 isOther Other = true
 
+-- no word means configure
 abbrev pub verbOf : Option (Placed Verb) → Verb
 verbOf None = Configure
 verbOf (Some w) = w .value
 
+-- the action asks for something else than to configure
 abbrev pub otherWord : ActionObject → Bool
 otherWord a = isOther (verbOf (a .word))
 
+-- the exception is fail
 abbrev pub isFail : Exception → Bool
 isFail Fail = true
 isFail Ignore = false
@@ -128,6 +131,7 @@ pub record OneVerdict (k : Catalogue) (p : Place) (acts : List ActionObject) (o 
 
 -- The same, computed along the lists.
 
+-- an action that fails by itself, one of another word, and one whose streams come to o
 abbrev pub byItself : Bool → Bool → Rejection → Outcome → Outcome
 byItself true other r o = rejected r
 byItself false true r o = unchanged
@@ -137,18 +141,21 @@ byItself false false r o = o
 abbrev pub actionHere : Catalogue → Place → ActionObject → Outcome
 actionHere k p a = byItself (failsItself a) (otherWord a) (ownRejection p a) (outcomeOf k (ending (streamTroubles k p) None (forcedStreams a)))
 
+-- an action of a task at p
 abbrev pub actionOutcome : Catalogue → Place → ActionObject → Outcome
 actionOutcome k p a = actionHere k (pathOf p a) a
 
--- far: what the actions before come to
+-- an action that came to this, after others that came to far: the first that can't be met decides, else the last plan counts
 abbrev pub afterAction : Outcome → Outcome → (Outcome → Outcome) → Outcome
 afterAction unchanged far next = next far
 afterAction (planned xs) far next = next (planned xs)
 afterAction (rejected r) far next = rejected r
 
+-- what these actions come to, after others that came to far
 abbrev pub outcomeFrom : Catalogue → Place → Outcome → List ActionObject → Outcome
 outcomeFrom k p far [] = far
 outcomeFrom k p far (a ∷ acts) = afterAction (actionOutcome k p a) far (λ o. outcomeFrom k p o acts)
 
+-- what the actions of a task come to
 abbrev pub taskOutcome : Catalogue → Place → List ActionObject → Outcome
 taskOutcome k p acts = outcomeFrom k p unchanged acts

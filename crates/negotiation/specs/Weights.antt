@@ -8,14 +8,17 @@ abbrev pub weightWith : {X : Type 0} → ℕ → List X → ℕ → ℕ
 weightWith absent [] parts = absent
 weightWith absent (x ∷ xs) parts = 1 + parts
 
+-- each value weighs one
 abbrev pub valuesWeight : List ValueObject → ℕ
 valuesWeight [] = 0
 valuesWeight (o ∷ os) = 1 + valuesWeight os
 
+-- each attribute with its values
 abbrev pub attributesWeight : List AttributeObject → ℕ
 attributesWeight [] = 0
 attributesWeight (o ∷ os) = (1 + valuesWeight (o .parts)) + attributesWeight os
 
+-- each pixelFormat object with its attributes
 abbrev pub formatsWeight : List FormatObject → ℕ
 formatsWeight [] = 0
 formatsWeight (o ∷ os) = (1 + attributesWeight (o .parts)) + formatsWeight os
@@ -29,6 +32,7 @@ sourcesWeight (o ∷ os) = weightWith 2 (o .parts) (formatsWeight (o .parts)) + 
 abbrev pub streamWeight : List SourceObject → ℕ
 streamWeight parts = weightWith 3 parts (sourcesWeight parts)
 
+-- each stream with its sources
 abbrev pub streamsWeight : List StreamObject → ℕ
 streamsWeight [] = 0
 streamsWeight (o ∷ os) = streamWeight (o .parts) + streamsWeight os

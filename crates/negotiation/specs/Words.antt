@@ -37,6 +37,7 @@ sourceMeant k w = ifOffered (k .offersSource) (meantBy (k .homeSource) w)
 abbrev pub formatMeant : Catalogue → Source → Option (Placed (Wanted PixelFormat)) → Option PixelFormat
 formatMeant k s w = ifOffered (k .offersFormat s) (meantBy (k .homeFormat s) w)
 
+-- an attribute of a pair
 abbrev pub pointAt : Source → PixelFormat → Attribute → Point
 pointAt s f a = record { source = s; format = f; attribute = a }
 

@@ -1,7 +1,6 @@
 // The actions of a task, and the streams of each, against a scanner.
 ghost use mathlib.Core.Path.{_≡_};
-ghost use mathlib.Core.Bool.{_&&_, _||_};
-ghost use Prim.Native.Nat.{_+_, _<_};
+ghost use mathlib.Core.Bool.{_&&_};
 ghost use Rattle.std.specs.declared.option.Option.the-variants.{None};
 ghost use Rattle.table.specs.declared.exception.Exception.the-variants.{Ignore};
 ghost use Rattle.table.specs.Views.{streamsIn, actionOf, actionsIn};

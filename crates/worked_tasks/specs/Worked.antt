@@ -39,13 +39,15 @@ outside = record { steps = None ∷ None ∷ None ∷ None ∷ None ∷ None ∷
 abbrev placed : {X : Type 0} → X → Placed X
 placed x = record { value = x; offset = 0 }
 
--- an object's index and offset, and its own exception
+-- an object by its index and offset, without an exception of its own
 abbrev plain : ℕ → ℕ → Head
 plain i at = record { index = i; offset = at; exception = None; unknown = false }
 
+-- the same with one
 abbrev under : ℕ → ℕ → Exception → Head
 under i at e = record { index = i; offset = at; exception = Some (placed e); unknown = false }
 
+-- a value that is a number
 abbrev number : Head → ℕ → ValueObject
 number h n = record { head = h; word = placed (Some (values.Number (pos n))) }
 
@@ -61,9 +63,11 @@ resolution vs = record {
 abbrev formatted : PixelFormat → SourceObject
 formatted f = record { head = plain 0 40; word = None; parts = record { head = plain 0 60; word = Some (placed (Named f)); parts = [] } ∷ [] }
 
+-- this source word alone
 abbrev fromSource : Head → Source → SourceObject
 fromSource h s = record { head = h; word = Some (placed (Named s)); parts = [] }
 
+-- a stream with these sources
 abbrev stream : Head → List SourceObject → StreamObject
 stream h sources = record { head = h; parts = sources }
 
@@ -75,20 +79,23 @@ configure entries streams = record { head = plain 0 12; word = None; entries = e
 abbrev another : Head → List ActionObject
 another h = record { head = h; word = Some (placed Other); entries = 0; parts = [] } ∷ []
 
+-- resolution at gray8
 abbrev grayPoint : Point
 grayPoint = record { source = Source.FlatBed; format = PixelFormat.Gray8; attribute = Attribute.Resolution }
 
--- gray8 alone, and gray8 with a resolution
+-- the plan of gray8 alone
 abbrev gray : List Item
 gray = Item.Source Source.FlatBed ∷ Item.Pair Source.FlatBed PixelFormat.Gray8 ∷ []
 
+-- and with a resolution
 abbrev grayAt : ℕ → List Item
 grayAt n = Item.Source Source.FlatBed ∷ Item.Pair Source.FlatBed PixelFormat.Gray8 ∷ Item.Line grayPoint (values.Number (pos n)) ∷ []
 
--- the path of a source of a stream of the first action, and of that source's first pixelFormat object
+-- the path of a source of a stream of the first action
 abbrev sourcePath : ℕ → ℕ → Place
 sourcePath i j = entered (entered (entered outside Level.Action 0) Level.Stream i) Level.Source j
 
+-- and of the first pixelFormat object of that source
 abbrev formatPath : ℕ → ℕ → Place
 formatPath i j = entered (sourcePath i j) Level.PixelFormat 0
 
@@ -99,6 +106,7 @@ pub record Row : Type 0 where
   pub grayEnabled : Bool
   pub grayResolution : ℕ
 
+-- the table
 abbrev pub worked : List Row
 worked =
     -- an empty task is accepted without change

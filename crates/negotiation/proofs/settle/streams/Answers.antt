@@ -5,18 +5,15 @@ use native.Mathlib.Omega.{arith}
 use lib.ListN.{length, drop}
 use Rattle.std.specs.declared.option.Option.the-variants.{Some, None}
 use Rattle.std.proofs.shelf.Lists.{at-drop-all}
-use Rattle.table.specs.declared.record.Record.{Record}
 use Rattle.table.specs.Views.{streamOf, streamsIn}
-use Rattle.negotiation.specs.Exceptions.{withForce}
 use Rattle.negotiation.specs.Troubles.{streamTroubles}
 use Rattle.negotiation.specs.Plans.{streamItems, defaultItems, planRoom}
-use Rattle.negotiation.specs.Endings.{Ending, failing, atEnd}
+use Rattle.negotiation.specs.Endings.{atEnd}
 use Rattle.negotiation.specs.Verdicts.{planned, rejected, outcomeOf}
 use Rattle.negotiation.specs.Tellings.{held, inRoom}
 use Rattle.negotiation.proofs.Rooms.{fits-in, fit-all}
-use Rattle.negotiation.proofs.Goings.{went-like}
 use Rattle.negotiation.proofs.Steps.{step-at}
-use Rattle.negotiation.proofs.Settling.{Trying, endingOf, try-at, try-over, try-end, try-fits, try-stops, try-passes}
+use Rattle.negotiation.proofs.Settling.{try-at, try-over, try-end, try-fits, try-stops, try-passes, tried}
 use Rattle.negotiation.proofs.settle.streams.Needs as need
 use Rattle.negotiation.proofs.settle.streams.Needs.{else-streams-test, then-streams-test·in-Action, then-streams-test·in-Vacant}
 
@@ -33,9 +30,8 @@ returns-in-Ok g c =
     let f = streamTroubles k (c .args .place .now) in
     let rest = drop (c .streams .i + 1) (c .args .records .now) in
     let h = c .in-Stream .head in
-    let x = withForce (c .args .action) (c .args .entries) (streamOf h rest) in
     let t = try-at f (c .args .action) (c .args .entries) (c .streams .i) _ _ (c .streams-test .taken) (c .in-Stream .is) (c .streams .inv) in
-    let w = went-like _ (f x) _ (streamItems k (streamOf h rest)) _ _ _ (λ j. streamTroubles k (c .streams .inv .place j) (record { stream = streamOf h (c .after .ensures j); force = c .stream-force-force .ensures j })) (λ j. streamItems k (streamOf h (c .after .ensures j))) (c .in-Ok .ensures tt .went) in
+    let w = tried k (c .args .action) (c .args .entries) h (c .streams .inv .place) (c .after .ensures) (c .stream-force-force .ensures) (c .in-Ok .ensures tt .went) in
     let b = c .stream .last .plan .items .ok .0 in
     let bound : length (held (c .stream .last .plan)) ≤ planRoom = omega (arith, c .stream .last .plan .bound) in
     record {
@@ -47,11 +43,9 @@ pub returns-in-Fail : need.returns-in-Fail
 returns-in-Fail g c =
     let k = g .S·Scanner .catalogue (c .args .scanner .now) in
     let f = streamTroubles k (c .args .place .now) in
-    let rest = drop (c .streams .i + 1) (c .args .records .now) in
     let h = c .in-Stream .head in
-    let x = withForce (c .args .action) (c .args .entries) (streamOf h rest) in
     let t = try-at f (c .args .action) (c .args .entries) (c .streams .i) _ _ (c .streams-test .taken) (c .in-Stream .is) (c .streams .inv) in
-    let w = went-like _ (f x) _ (streamItems k (streamOf h rest)) _ _ _ (λ j. streamTroubles k (c .streams .inv .place j) (record { stream = streamOf h (c .after .ensures j); force = c .stream-force-force .ensures j })) (λ j. streamItems k (streamOf h (c .after .ensures j))) (c .in-Err .ensures tt .went) in
+    let w = tried k (c .args .action) (c .args .entries) h (c .streams .inv .place) (c .after .ensures) (c .stream-force-force .ensures) (c .in-Err .ensures tt .went) in
     record {
       place = c .stream .ensures .place ∙ c .streams .inv .place;
       told = ap rejected (c .fails .ensures) ∙ ap (λ e. inRoom (outcomeOf k e)) (try-stops f (c .args .action) (c .args .entries) h (c .in-Err .trouble) t (w .decided) (c .in-Fail .is));
@@ -61,11 +55,9 @@ pub streams-again : need.streams-again
 streams-again g c =
     let k = g .S·Scanner .catalogue (c .args .scanner .now) in
     let f = streamTroubles k (c .args .place .now) in
-    let rest = drop (c .streams .i + 1) (c .args .records .now) in
     let h = c .in-Stream .head in
-    let x = withForce (c .args .action) (c .args .entries) (streamOf h rest) in
     let t = try-at f (c .args .action) (c .args .entries) (c .streams .i) _ _ (c .streams-test .taken) (c .in-Stream .is) (c .streams .inv) in
-    let w = went-like _ (f x) _ (streamItems k (streamOf h rest)) _ _ _ (λ j. streamTroubles k (c .streams .inv .place j) (record { stream = streamOf h (c .after .ensures j); force = c .stream-force-force .ensures j })) (λ j. streamItems k (streamOf h (c .after .ensures j))) (c .in-Err .ensures tt .went) in
+    let w = tried k (c .args .action) (c .args .entries) h (c .streams .inv .place) (c .after .ensures) (c .stream-force-force .ensures) (c .in-Err .ensures tt .went) in
     try-passes f (c .args .action) (c .args .entries) h (c .in-Err .trouble) t (c .stream .ensures .place) (w .decided) (c .in-rest-exception .not-Fail)
 
 pub returns-in-Some : need.returns-in-Some
