@@ -28,6 +28,7 @@ abbrev pub nothing : Lot
 nothing = record { records = []; weight = 0 }
 
 -- one after the other
+infixl 20 _⊕_
 abbrev pub _⊕_ : Lot → Lot → Lot
 l ⊕ m = record { records = l .records ++ m .records; weight = l .weight + m .weight }
 

@@ -51,7 +51,7 @@ most = 2 ^ 64 - 1
 -- the records of a lot were put into the table from the first unused place on, as far as it reaches, and counted
 pub record Filled (old new : List Record) (from to : Tally) (o : Lot) : Type 0 where
   pub uses : to .used ≡ from .used + length (o .records)
-  pub weighs : to .weight ≡ min (from .weight + o .weight) most
+  pub weighs : min (to .weight) most ≡ min (from .weight + o .weight) most
   pub long : length new ≡ length old
   pub kept : (k : ℕ) → k < from .used → (d : Record) → getD new k d ≡ getD old k d
   pub stands : (k : ℕ) → k < length (o .records) → from .used + k < length new → (d : Record) → getD new (from .used + k) d ≡ getD (o .records) k d
@@ -135,11 +135,11 @@ Closes brace d old new outer reserved inner (Err e) = (recordOf d ≡ None) × (
 -- a place is reserved for an object that is not the task
 pub record Reserved (l : Level) (from to : Tally) : Type 0 where
   pub uses : to .used ≡ from .used + ownWeight (isTask l)
-  pub weighs : to .weight ≡ min (from .weight + ownWeight (isTask l)) most
+  pub weighs : min (to .weight) most ≡ min (from .weight + ownWeight (isTask l)) most
 
 -- one pass over a text: a fault of the form may hide one of the text
 abbrev pub Passes : List ℕ → List Record → List Record → Result ℕ TableFault → Type 0
 Passes t old new (Ok n) = ReadsTask t new (Ok n)
 Passes t old new (Err (Text e)) = outcome t ≡ Err e
-Passes t old new (Err (Form rule i)) = (length t ≤ 65536) × (form t ≡ failed rule i)
+Passes t old new (Err (Form rule i)) = form t ≡ failed rule i
 Passes t old new (Err TooHeavy) = verdict t (length new) ≡ Err TooHeavy
