@@ -4,7 +4,9 @@ pub mod Levels
 pub mod Words
 pub mod Drafts
 pub mod Steps
+pub mod Form
+pub mod Verdict
+pub mod Works
 pub mod Places
-pub mod Moves
 pub mod Task
 pub mod Views

@@ -12,12 +12,12 @@ use Rattle.table.specs.declared.record.Head.{Head}
 use Rattle.table.specs.declared.record.Verb.{Verb}
 use Rattle.table.specs.declared.record.Wanted.{Wanted}
 
--- a value; its word is none where it is no value word and no number
+-- its word is none where it is no value word and no number
 pub record ValueObject : Type 0 where
   pub head : Head
   pub word : Placed (Option Value)
 
--- an attribute; its word is none where it names no attribute
+-- its word is none where it names no attribute
 pub record AttributeObject : Type 0 where
   pub head : Head
   pub word : Placed (Option Attribute)
@@ -35,12 +35,11 @@ pub record SourceObject : Type 0 where
   pub word : Option (Placed (Wanted Source))
   pub parts : List FormatObject
 
--- a stream, which has no word
 pub record StreamObject : Type 0 where
   pub head : Head
   pub parts : List SourceObject
 
--- an action, which may have no word; entries is how many its array of streams has, skipped ones counted
+-- entries: how many its array of streams has, skipped ones counted
 pub record ActionObject : Type 0 where
   pub head : Head
   pub word : Option (Placed Verb)

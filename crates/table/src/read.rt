@@ -1,12 +1,19 @@
 // Reading a task: one pass over the text, an object and its array calling one another.
 ghost use mathlib.Core.Path.{_≡_};
-ghost use Prim.Native.Nat.{_+_, _<_, _≤_};
+ghost use mathlib.Core.Bool.{true, false};
+ghost use mathlib.Core.List.{List, _∷_};
+ghost use Prim.Native.Nat.{ℕ, _+_, _-_, _^_, _<_, _≤_};
 ghost use lib.ListN.{length};
 ghost use Rattle.std.specs.Vec.{made};
 ghost use Rattle.std.specs.declared.result.Result.the-variants.{Err};
-ghost use Rattle.text.specs.declared.fault.TextFault.the-variants.{TooLong};
-ghost use Rattle.table.specs.Moves.{Onward};
-ghost use Rattle.table.specs.declared.fault.TableFault.the-variants.{Text};
+ghost use Rattle.text.specs.Machine.{value as a-value, members as some-members, entries as some-entries};
+ghost use Rattle.text.specs.Strings.{stands};
+ghost use Rattle.table.specs.Levels.{levelCode};
+ghost use Rattle.table.specs.Words.{keySpelled};
+ghost use Rattle.table.specs.Drafts.{fresh};
+ghost use Rattle.table.specs.Form.{nothing, isValueName, isTask};
+ghost use Rattle.table.specs.Verdict.{ReadsTask};
+ghost use Rattle.table.specs.Works.{stored, absentIf, ReadsString, ReadsParts, ReadsObject, Reserved, Closes, Passes, atMembers, atArray, atValue, atEntries, atName};
 use crate::draft::Draft;
 use crate::fault::FormRule;
 use crate::fault::TableFault;
@@ -29,27 +36,41 @@ use text::Token;
 use text::check;
 use text::check_length;
 
-// Writes a record, if the table has room there.
-fn store(table: &mut [Record], at: usize, record: Record) {
-    if at < table.len() {
-        table[at] = record;
+// Writes the record of an object, if the table has room there; the task itself has none.
+fn store(table: &mut [Record], level: Level, at: usize, row: Record)
+    ensures { λ _. ⌜ now (table .exit) ≡ stored false (isTask level) (now (table .entry)) at row ⌝ }
+{
+    if level == Level::Task {
+        return;
     }
+    if at < table.len() {
+        table[at] = row;
+    }
+}
+
+// What an object weighs beyond itself, by whether its parts are absent.
+fn default_weight(level: Level, absent: bool) -> usize
+    ensures { λ r. ⌜ r ≡ absentIf absent level ⌝ }
+{
+    if absent { level.weight_of_absent_parts() } else { 0 }
 }
 
 // An object more; the task itself has no record and no weight.
 fn reserve(level: Level, tally: Tally) -> Tally
-    ensures { λ r. ⌜ tally .weight ≤ r .weight ⌝ }
+    requires { ⌜ tally .used < 2 ^ 64 - 1 ⌝ }
+    ensures { λ r. ⌜ Reserved level tally r ⌝ }
 {
     if level == Level::Task {
         return tally;
     }
-    Tally { used: tally.used.saturating_add(1), weight: tally.weight.saturating_add(1) }
+    Tally { used: tally.used + 1, weight: tally.weight.saturating_add(1) }
 }
 
 // A string member of an object.
-fn string_member<'a>(reader: &mut Reader<'a>, levels: u8, draft: &mut Draft, key: Key) -> Result<(), TableFault>
+fn string_member(reader: &mut Reader, levels: u8, draft: &mut Draft, key: Key) -> Result<(), TableFault>
+    requires { ⌜ isValueName key ≡ false ⌝ }
     ensures level { λ _. ⌜ now (draft .exit) .level ≡ now (draft .entry) .level ⌝ }
-    ensures onward { λ r. ⌜ made r (λ _. Onward (now (reader .entry)) (now (reader .exit))) ⌝ }
+    ensures reads { λ r. ⌜ ((t : List ℕ) → now (now (reader .entry) .text) ≡ t → ReadsString t levels key (now (draft .entry)) (now (draft .exit)) (now (reader .entry)) (now (reader .exit)) r) ⌝ }
 {
     let token = reader.token(levels)?;
     let Token::String(raw) = token.value else {
@@ -59,11 +80,11 @@ fn string_member<'a>(reader: &mut Reader<'a>, levels: u8, draft: &mut Draft, key
 }
 
 // The value of the member that is called `name`.
-fn member<'a>(reader: &mut Reader<'a>, place: &mut Place, table: &mut [Record], levels: u8, draft: &mut Draft, name: Placed<&[u8]>, tally: Tally) -> Result<Tally, TableFault>
+fn member(reader: &mut Reader, place: &mut Place, table: &mut [Record], levels: u8, draft: &mut Draft, name: Placed<&[u8]>, tally: Tally) -> Result<Tally, TableFault>
+    requires { ⌜ tally .used ≤ now reader .at ⌝ }
     ensures place { λ _. ⌜ now (place .exit) ≡ now (place .entry) ⌝ }
     ensures level { λ _. ⌜ now (draft .exit) .level ≡ now (draft .entry) .level ⌝ }
-    ensures onward { λ r. ⌜ made r (λ _. Onward (now (reader .entry)) (now (reader .exit))) ⌝ }
-    ensures weight { λ r. ⌜ made r (λ t. tally .weight ≤ t .weight) ⌝ }
+    ensures reads { λ r. ⌜ ((t : List ℕ) → now (now (reader .entry) .text) ≡ t → ReadsParts t (λ k. a-value levels ∷ k) (λ k. k) (atName (keySpelled (stands (now (name .entry .value)))) (now (draft .entry)) (name .entry .offset)) (atMembers (now (draft .exit))) (now (table .entry)) (now (table .exit)) tally (now (reader .entry)) (now (reader .exit)) r) ⌝ }
 {
     let Some(key) = Key::spelled(name.value) else {
         draft.head.unknown = true;
@@ -93,24 +114,25 @@ fn member<'a>(reader: &mut Reader<'a>, place: &mut Place, table: &mut [Record], 
 }
 
 // The array of an object's parts.
-fn array<'a>(reader: &mut Reader<'a>, place: &mut Place, table: &mut [Record], levels: u8, draft: &mut Draft, part: Level, tally: Tally) -> Result<Tally, TableFault>
+fn array(reader: &mut Reader, place: &mut Place, table: &mut [Record], levels: u8, draft: &mut Draft, part: Level, tally: Tally) -> Result<Tally, TableFault>
+    requires { ⌜ tally .used ≤ now reader .at ⌝ }
     ensures place { λ _. ⌜ now (place .exit) ≡ now (place .entry) ⌝ }
     ensures level { λ _. ⌜ now (draft .exit) .level ≡ now (draft .entry) .level ⌝ }
-    ensures onward { λ r. ⌜ made r (λ _. Onward (now (reader .entry)) (now (reader .exit))) ⌝ }
-    ensures weight { λ r. ⌜ made r (λ t. tally .weight ≤ t .weight) ⌝ }
+    ensures reads { λ r. ⌜ ((t : List ℕ) → now (now (reader .entry) .text) ≡ t → ReadsParts t (λ k. a-value levels ∷ k) (λ k. k) (atArray part (now (draft .entry))) (atMembers (now (draft .exit))) (now (table .entry)) (now (table .exit)) tally (now (reader .entry)) (now (reader .exit)) r) ⌝ }
 {
     let token = reader.token(levels)?;
     let Token::Array = token.value else {
         return Err(TableFault::Form(FormRule::WrongKind, token.offset));
     };
-    entries(reader, place, table, levels.saturating_sub(1), draft, part, tally)
+    entries(reader, place, table, levels - 1, draft, part, tally)
 }
 
-fn entries<'a>(reader: &mut Reader<'a>, place: &mut Place, table: &mut [Record], levels: u8, draft: &mut Draft, part: Level, tally: Tally) -> Result<Tally, TableFault>
+// The entries of an array, after its bracket.
+fn entries(reader: &mut Reader, place: &mut Place, table: &mut [Record], levels: u8, draft: &mut Draft, part: Level, tally: Tally) -> Result<Tally, TableFault>
+    requires { ⌜ tally .used ≤ now reader .at ⌝ }
     ensures place { λ _. ⌜ now (place .exit) ≡ now (place .entry) ⌝ }
     ensures level { λ _. ⌜ now (draft .exit) .level ≡ now (draft .entry) .level ⌝ }
-    ensures onward { λ r. ⌜ made r (λ _. Onward (now (reader .entry)) (now (reader .exit))) ⌝ }
-    ensures weight { λ r. ⌜ made r (λ t. tally .weight ≤ t .weight) ⌝ }
+    ensures reads { λ r. ⌜ ((t : List ℕ) → now (now (reader .entry) .text) ≡ t → ReadsParts t (λ k. some-entries true levels ∷ k) (λ k. k) (atEntries part 0 (now (draft .entry))) (atMembers (now (draft .exit))) (now (table .entry)) (now (table .exit)) tally (now (reader .entry)) (now (reader .exit)) r) ⌝ }
 {
     let mut tally = tally;
     let mut index: u32 = 0;
@@ -123,11 +145,11 @@ fn entries<'a>(reader: &mut Reader<'a>, place: &mut Place, table: &mut [Record],
 }
 
 // One entry of an array of objects.
-fn entry<'a>(reader: &mut Reader<'a>, place: &mut Place, table: &mut [Record], levels: u8, level: Level, index: u32, tally: Tally) -> Result<Tally, TableFault>
+fn entry(reader: &mut Reader, place: &mut Place, table: &mut [Record], levels: u8, level: Level, index: u32, tally: Tally) -> Result<Tally, TableFault>
+    requires { ⌜ tally .used ≤ now reader .at ⌝ }
     ensures place { λ _. ⌜ now (place .exit) ≡ now (place .entry) ⌝ }
-    ensures onward { λ r. ⌜ made r (λ _. Onward (now (reader .entry)) (now (reader .exit))) ⌝ }
-    ensures weight { λ r. ⌜ made r (λ t. tally .weight ≤ t .weight) ⌝ }
     ensures further { λ r. ⌜ made r (λ _. (now (reader .entry) .at < now (reader .exit) .at) × (index < 37)) ⌝ }
+    ensures reads { λ r. ⌜ ((t : List ℕ) (h : Draft) → now (now (reader .entry) .text) ≡ t → ReadsParts t (λ k. a-value levels ∷ k) (λ k. k) (atEntries level index h) (atEntries level (index + 1) h) (now (table .entry)) (now (table .exit)) tally (now (reader .entry)) (now (reader .exit)) r) ⌝ }
 {
     let token = reader.token(levels)?;
     if index >= level.limit() {
@@ -136,36 +158,34 @@ fn entry<'a>(reader: &mut Reader<'a>, place: &mut Place, table: &mut [Record], l
     let Token::Object = token.value else {
         return Err(TableFault::Form(FormRule::WrongKind, token.offset));
     };
-    object(reader, place, table, levels.saturating_sub(1), level, index, token.offset, tally)
+    object(reader, place, table, levels - 1, level, index, token.offset, tally)
 }
 
 // An object, after its brace; the place record is inside it meanwhile.
-fn object<'a>(reader: &mut Reader<'a>, place: &mut Place, table: &mut [Record], levels: u8, level: Level, index: u32, offset: usize, tally: Tally) -> Result<Tally, TableFault>
+fn object(reader: &mut Reader, place: &mut Place, table: &mut [Record], levels: u8, level: Level, index: u32, offset: usize, tally: Tally) -> Result<Tally, TableFault>
+    requires { ⌜ tally .used < now reader .at ⌝ }
     ensures place { λ _. ⌜ now (place .exit) ≡ now (place .entry) ⌝ }
-    ensures onward { λ r. ⌜ made r (λ _. Onward (now (reader .entry)) (now (reader .exit))) ⌝ }
-    ensures weight { λ r. ⌜ made r (λ t. tally .weight ≤ t .weight) ⌝ }
+    ensures reads { λ r. ⌜ ((t : List ℕ) → now (now (reader .entry) .text) ≡ t → ReadsObject t levels (atMembers (fresh level index offset) nothing) (now (table .entry)) (now (table .exit)) tally (now (reader .entry)) (now (reader .exit)) r) ⌝ }
 {
     let outer = place.enter(level, index);
     let inside = Inside { place, level, outer };
-    let draft = Draft::new(level, index, offset);
-    members(reader, inside.place, table, levels, draft, tally.used, reserve(level, tally))
+    members(reader, inside.place, table, levels, Draft::new(level, index, offset), tally)
 }
 
-// The members of an object up to its end; `before` of the table was used before the object.
-fn members<'a>(reader: &mut Reader<'a>, place: &mut Place, table: &mut [Record], levels: u8, draft: Draft, before: usize, tally: Tally) -> Result<Tally, TableFault>
-    requires { ⌜ before ≤ tally .weight ⌝ }
+// The members of an object up to its end.
+fn members(reader: &mut Reader, place: &mut Place, table: &mut [Record], levels: u8, draft: Draft, outer: Tally) -> Result<Tally, TableFault>
+    requires { ⌜ outer .used < now reader .at ⌝ }
     ensures place { λ _. ⌜ now (place .exit) ≡ now (place .entry) ⌝ }
-    ensures onward { λ r. ⌜ made r (λ _. Onward (now (reader .entry)) (now (reader .exit))) ⌝ }
-    ensures weight { λ r. ⌜ made r (λ t. tally .weight ≤ t .weight) ⌝ }
+    ensures reads { λ r. ⌜ ((t : List ℕ) → now (now (reader .entry) .text) ≡ t → ReadsObject t levels (atMembers draft nothing) (now (table .entry)) (now (table .exit)) outer (now (reader .entry)) (now (reader .exit)) r) ⌝ }
 {
     let mut draft = draft;
-    let reserved = tally.used;
-    let mut tally = tally;
+    let reserved = reserve(draft.level, outer);
+    let mut inner = reserved;
     let mut first = true;
     loop {
         match reader.member(first)? {
-            Member::Named(name) => tally = member(reader, place, table, levels, &mut draft, name, tally)?,
-            Member::End(brace) => return close(table, &draft, brace, before, reserved, tally),
+            Member::Named(name) => inner = member(reader, place, table, levels, &mut draft, name, inner)?,
+            Member::End(brace) => return close(table, &draft, brace, outer, reserved.used, inner),
         }
         first = false;
     }
@@ -173,27 +193,23 @@ fn members<'a>(reader: &mut Reader<'a>, place: &mut Place, table: &mut [Record],
 
 // The end of an object: its record goes to the place that was reserved for it, and the weight of absent parts is counted.
 // A skipped object leaves no record.
-fn close(table: &mut [Record], draft: &Draft, brace: usize, before: usize, reserved: usize, tally: Tally) -> Result<Tally, TableFault>
-    requires { ⌜ before ≤ tally .weight ⌝ }
-    ensures { λ r. ⌜ made r (λ t. tally .weight ≤ t .weight) ⌝ }
+fn close(table: &mut [Record], draft: &Draft, brace: usize, outer: Tally, reserved: usize, inner: Tally) -> Result<Tally, TableFault>
+    requires { ⌜ outer .used ≤ inner .weight ⌝ }
+    ensures { λ r. ⌜ Closes brace (now (draft .entry)) (now (table .entry)) (now (table .exit)) outer reserved inner r ⌝ }
 {
     let record = draft.record(brace)?;
-    let absent = if tally.used == reserved { draft.level.weight_of_absent_parts() } else { 0 };
-    let weight = tally.weight.saturating_add(absent);
+    let weight = inner.weight.saturating_add(default_weight(draft.level, inner.used == reserved));
     if draft.skipped {
-        return Ok(Tally { used: before, weight });
+        return Ok(Tally { used: outer.used, weight });
     }
-    if draft.level != Level::Task {
-        store(table, before, record);
-    }
-    Ok(Tally { used: tally.used, weight })
+    store(table, draft.level, outer.used, record);
+    Ok(Tally { used: inner.used, weight })
 }
 
 // One pass over the text. A fault of form may hide a later fault of the text.
 fn pass(text: &[u8], place: &mut Place, table: &mut [Record]) -> Result<usize, TableFault>
     ensures place { λ _. ⌜ now (place .exit) ≡ now (place .entry) ⌝ }
-    ensures within { λ r. ⌜ made r (λ n. n ≤ length (now (table .exit))) ⌝ }
-    ensures long { λ r. ⌜ (65536 < length (now (text .entry)) → r ≡ Err (Text TooLong)) ⌝ }
+    ensures reads { λ r. ⌜ Passes (now (text .entry)) (now (table .entry)) (now (table .exit)) r ⌝ }
 {
     check_length(text)?;
     let mut reader = Reader::new(text);
@@ -209,18 +225,27 @@ fn pass(text: &[u8], place: &mut Place, table: &mut [Record]) -> Result<usize, T
     Ok(tally.used)
 }
 
+// The fault by which a text is refused, after a pass that found one: a fault of the text comes before one of the form.
+fn first_fault(text: &[u8], fault: TableFault) -> TableFault
+    ensures { λ r. ⌜ ((old new : List Record) → Passes (now (text .entry)) old new (Err fault) → ReadsTask (now (text .entry)) new (Err r)) ⌝ }
+{
+    match fault {
+        TableFault::Form(_, _) => match check(text) {
+            Ok(_) => fault,
+            Err(earlier) => TableFault::Text(earlier),
+        },
+        _ => fault,
+    }
+}
+
 // Reads a text as a task into the lent table: how many records it uses.
 // A text that is too long is refused first, then one that is no JSON, then one that breaks a rule of form, then one that is too heavy.
 pub fn read_task(text: &[u8], place: &mut Place, table: &mut [Record]) -> Result<usize, TableFault>
     ensures place { λ _. ⌜ now (place .exit) ≡ now (place .entry) ⌝ }
-    ensures within { λ r. ⌜ made r (λ n. n ≤ length (now (table .exit))) ⌝ }
-    ensures long { λ r. ⌜ (65536 < length (now (text .entry)) → r ≡ Err (Text TooLong)) ⌝ }
+    ensures reads { λ r. ⌜ ReadsTask (now (text .entry)) (now (table .exit)) r ⌝ }
 {
     match pass(text, place, table) {
-        Err(TableFault::Form(rule, offset)) => {
-            check(text)?;
-            Err(TableFault::Form(rule, offset))
-        }
-        other => other,
+        Ok(used) => Ok(used),
+        Err(fault) => Err(first_fault(text, fault)),
     }
 }

@@ -11,7 +11,7 @@ use Rattle.std.proofs.shelf.Tests.{cond-true, cond-false}
 use Rattle.std.proofs.shelf.Ways.{tells}
 use Rattle.text.specs.Bytes.{white, digit}
 use Rattle.text.specs.Machine.{Frame, Step, Tape, ending, event, name, go, says, forbidden, too-deep, step, value, member, members, colon, entries, first, after, digits, whole, number, begin-object, begin-array}
-use Rattle.text.specs.Tree.{Json, Members, Entries, scalar, object, array, no-member, one-member, no-entry, one-entry, events, member-events, entry-events}
+use Rattle.text.specs.Tree.{Json, Members, Entries, scalar, object, array, no-member, one-member, no-entry, one-entry, events, member-events, entry-events, Proper, ProperMembers, ProperEntries}
 use Rattle.text.specs.Ahead.{Skips}
 
 pub skip-value : (d : ℕ) → Skips (λ k. value d ∷ k)
@@ -116,3 +116,13 @@ pub add-entry-events : (vs : Entries) (v : Json) (t : Tape) → entry-events (ad
 unfolding entry-events add-entry
 add-entry-events no-entry v t = refl
 add-entry-events (one-entry w vs) v t = ap (events w) (add-entry-events vs v t)
+
+pub add-member-proper : (ms : Members) (i : ℕ) (v : Json) → ProperMembers ms → Proper v → ProperMembers (add-member ms i v)
+unfolding ProperMembers add-member
+add-member-proper no-member i v p q = (q, tt)
+add-member-proper (one-member j w ms) i v p q = (p .0, add-member-proper ms i v (p .1) q)
+
+pub add-entry-proper : (vs : Entries) (v : Json) → ProperEntries vs → Proper v → ProperEntries (add-entry vs v)
+unfolding ProperEntries add-entry
+add-entry-proper no-entry v p q = (q, tt)
+add-entry-proper (one-entry w vs) v p q = (p .0, add-entry-proper vs v (p .1) q)

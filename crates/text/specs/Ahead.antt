@@ -20,7 +20,7 @@ use Rattle.text.specs.declared.token.Member.{Member}
 use Rattle.text.specs.declared.token.Member.the-variants.{Named, End}
 use Rattle.text.specs.Bytes.{white}
 use Rattle.text.specs.Machine.{Frame, value, letters, member, members, entries, tail, chars, Kind, begin-object, begin-array, end-object, end-array, name, string, number, literal-true, literal-false, literal-null, Step, go, says, forbidden, step, Tape, good, event, ending, run}
-use Rattle.text.specs.Tree.{Json, Members, Entries, events, member-events, entry-events}
+use Rattle.text.specs.Tree.{Json, Members, Entries, events, member-events, entry-events, Proper, ProperMembers, ProperEntries}
 use Rattle.text.specs.Parts.{scalarLength, valueLength, stringPart, numberPart}
 
 -- the tape of the rest of the text at the stack k
@@ -191,6 +191,7 @@ pub record ValueRead (d : ℕ) (r s : Reader) (x : Token) (i : ℕ) : Type 0 whe
   pub from : r .at ≤ i
   pub moves : r .at < s .at
   pub what : Json
+  pub proper : Proper what
   pub starts : Starts what (kindOf x) i
   pub to : s .at ≡ r .at + valueLength d (drop (r .at) (r .text .now))
   pub holds : Holds (drop i (r .text .now)) x
@@ -204,6 +205,7 @@ ReadsValue d r s (Err e) = Halted (λ k. value d ∷ k) r s e
 -- the members of an object and its closing brace were read
 pub record MembersRead (d : ℕ) (r s : Reader) : Type 0 where
   pub what : Members
+  pub proper : ProperMembers what
   pub last : ℕ
   pub to : s .at ≡ last + 1
   pub passed : Passed (λ k. members true d ∷ k) (λ k. k) (λ t. member-events what (event end-object last t)) r s
@@ -216,6 +218,7 @@ ReadsMembers d r s (Err e) = Halted (λ k. members true d ∷ k) r s e
 -- the entries of an array and its closing bracket were read
 pub record EntriesRead (d : ℕ) (r s : Reader) : Type 0 where
   pub what : Entries
+  pub proper : ProperEntries what
   pub last : ℕ
   pub to : s .at ≡ last + 1
   pub passed : Passed (λ k. entries true d ∷ k) (λ k. k) (λ t. entry-events what (event end-array last t)) r s

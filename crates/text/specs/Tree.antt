@@ -1,6 +1,6 @@
 -- A JSON value by the offsets of its tokens.
 use Prim.Native.Nat.{ℕ}
-use Rattle.text.specs.Machine.{Kind, Tape, event, begin-object, end-object, begin-array, end-array, name}
+use Rattle.text.specs.Machine.{Kind, Tape, event, begin-object, end-object, begin-array, end-array, name, string, number, literal-true, literal-false, literal-null}
 
 mutual
   -- a scalar of a kind at its offset; an object or an array with the offsets of its two brackets
@@ -33,3 +33,31 @@ unfoldable mutual
   pub entry-events : Entries → Tape → Tape
   entry-events no-entry t = t
   entry-events (one-entry v vs) t = events v (entry-events vs t)
+
+-- the kinds that a scalar may have: no bracket and no name
+abbrev pub Scalar : Kind → Type 0
+Scalar begin-object = ⊥
+Scalar end-object = ⊥
+Scalar begin-array = ⊥
+Scalar end-array = ⊥
+Scalar name = ⊥
+Scalar string = Unit {0}
+Scalar number = Unit {0}
+Scalar literal-true = Unit {0}
+Scalar literal-false = Unit {0}
+Scalar literal-null = Unit {0}
+
+-- every scalar in a value has a kind of its own
+unfoldable mutual
+  pub Proper : Json → Type 0
+  Proper (scalar x i) = Scalar x
+  Proper (object i ms j) = ProperMembers ms
+  Proper (array i vs j) = ProperEntries vs
+
+  pub ProperMembers : Members → Type 0
+  ProperMembers no-member = Unit {0}
+  ProperMembers (one-member i v ms) = Proper v × ProperMembers ms
+
+  pub ProperEntries : Entries → Type 0
+  ProperEntries no-entry = Unit {0}
+  ProperEntries (one-entry v vs) = Proper v × ProperEntries vs
