@@ -34,20 +34,20 @@ impl Plan {
         self.items.as_slice()
     }
 
-    pub fn len(&self) -> usize
+    pub(crate) fn len(&self) -> usize
         ensures { λ r. ⌜ r ≡ vec-len (now (self .entry) .items) ⌝ }
     {
         self.items.len()
     }
 
-    pub fn clear(&mut self)
+    pub(crate) fn clear(&mut self)
         ensures { λ _. ⌜ vec-items (now (self .exit) .items) ≡ [] ⌝ }
     {
         self.items.clear();
     }
 
     // Adds an item, where there is room for it.
-    pub fn push(&mut self, item: Item)
+    pub(crate) fn push(&mut self, item: Item)
         ensures { λ _. ⌜ vec-items (now (self .exit) .items) ≡ fitted (vec-items (now (self .entry) .items) ++ item ∷ []) ⌝ }
     {
         if self.len() < PLAN_ROOM {
