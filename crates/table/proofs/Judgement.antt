@@ -23,7 +23,7 @@ use Rattle.table.specs.declared.fault.TableFault.the-variants.{Text, Form, Too
 use Rattle.table.specs.declared.fault.FormRule.{FormRule}
 use Rattle.table.specs.Limits.{maxWeight}
 use Rattle.table.specs.Form.{Lot, begins, failed, done, given, after}
-use Rattle.table.specs.Verdict.{form, verdict, ReadsTask}
+use Rattle.table.specs.Verdict.{form, verdict, ReadsTask, objects, HoldsTask}
 use Rattle.table.specs.Works.{Works, Stops, Filled, most, Passes}
 
 from-start : (t : List ℕ) (r : Reader) → r .at ≡ 0 → r .text .now ≡ t → tape t ≡ ahead r (value mostLevels ∷ [])
@@ -87,3 +87,8 @@ pub form-stays : (t : List ℕ) (old new : List Record) (e : TableFault) (rule :
 form-stays t old new (Text e) rule i z p q = absurd (let y : _≡_ {A = ℕ} 0 1 = cc in omega arith)
 form-stays t old new (Form r j) rule i z p q = form-then t (length new) r j p q
 form-stays t old new TooHeavy rule i z p q = absurd (let y : _≡_ {A = ℕ} 0 1 = cc in omega arith)
+
+-- the records that were read stand for the task
+pub holds-task : (t : List ℕ) (table : List Record) (x : Result ℕ TableFault) → ReadsTask t table x → HoldsTask t table x
+holds-task t table (Ok n) p = ap objects (p .1)
+holds-task t table (Err e) p = ap objects p

@@ -7,6 +7,8 @@ pub mod Steps
 pub mod Form
 pub mod Verdict
 pub mod Works
+pub mod Worked
+pub mod Laws
 pub mod Places
 pub mod Task
 pub mod Views

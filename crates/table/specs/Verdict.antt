@@ -13,6 +13,8 @@ use Rattle.table.specs.declared.record.Record.{Record}
 use Rattle.table.specs.declared.fault.TableFault.{TableFault}
 use Rattle.table.specs.declared.fault.TableFault.the-variants.{Text, Form, TooHeavy}
 use Rattle.table.specs.Limits.{maxWeight}
+use Rattle.table.specs.Task.{ActionObject}
+use Rattle.table.specs.Views.{actionsIn}
 use Rattle.table.specs.Form.{Lot, State, begins, inside, failed, done, astray, after}
 
 -- the form of a text: its task, or the first rule of form that it breaks
@@ -44,3 +46,17 @@ verdict t room = judged (outcome t) room (form t)
 abbrev pub ReadsTask : List ℕ → List Record → Result ℕ TableFault → Type 0
 ReadsTask t table (Ok n) = (n ≤ length table) × (verdict t (length table) ≡ Ok (take n table))
 ReadsTask t table (Err e) = verdict t (length table) ≡ Err e
+
+-- the objects that records stand for
+abbrev pub objects : Result (List Record) TableFault → Result (List ActionObject) TableFault
+objects (Ok rs) = Ok (actionsIn rs)
+objects (Err e) = Err e
+
+-- the task that a text writes, or the fault by which it is refused
+abbrev pub task : List ℕ → ℕ → Result (List ActionObject) TableFault
+task t room = objects (verdict t room)
+
+-- the first n records of the table stand for the task, or the text is refused by the fault
+abbrev pub HoldsTask : List ℕ → List Record → Result ℕ TableFault → Type 0
+HoldsTask t table (Ok n) = task t (length table) ≡ Ok (actionsIn (take n table))
+HoldsTask t table (Err e) = task t (length table) ≡ Err e

@@ -4,6 +4,7 @@ pub mod exception;
 pub mod fault;
 pub mod inside;
 pub mod keys;
+pub mod laws;
 pub mod level;
 pub mod limits;
 pub mod meaning;

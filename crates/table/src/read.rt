@@ -12,7 +12,7 @@ ghost use Rattle.table.specs.Levels.{levelCode};
 ghost use Rattle.table.specs.Words.{keySpelled};
 ghost use Rattle.table.specs.Drafts.{fresh};
 ghost use Rattle.table.specs.Form.{nothing, isValueName, isTask};
-ghost use Rattle.table.specs.Verdict.{ReadsTask};
+ghost use Rattle.table.specs.Verdict.{ReadsTask, HoldsTask};
 ghost use Rattle.table.specs.Works.{stored, absentIf, ReadsString, ReadsParts, ReadsObject, Reserved, Closes, Passes, atMembers, atArray, atValue, atEntries, atName};
 use crate::draft::Draft;
 use crate::fault::FormRule;
@@ -243,6 +243,7 @@ fn first_fault(text: &[u8], fault: TableFault) -> TableFault
 pub fn read_task(text: &[u8], place: &mut Place, table: &mut [Record]) -> Result<usize, TableFault>
     ensures place { λ _. ⌜ now (place .exit) ≡ now (place .entry) ⌝ }
     ensures reads { λ r. ⌜ ReadsTask (now (text .entry)) (now (table .exit)) r ⌝ }
+    ensures task { λ r. ⌜ HoldsTask (now (text .entry)) (now (table .exit)) r ⌝ }
 {
     match pass(text, place, table) {
         Ok(used) => Ok(used),
