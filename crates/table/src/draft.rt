@@ -39,7 +39,7 @@ pub struct Draft {
 }
 
 impl Draft {
-    pub fn new(level: Level, index: u32, offset: usize) -> Draft
+    pub(crate) fn new(level: Level, index: u32, offset: usize) -> Draft
         ensures { λ r. ⌜ r ≡ fresh level index offset ⌝ }
     {
         let head = Head { index, offset, exception: None, unknown: false };
@@ -47,7 +47,7 @@ impl Draft {
     }
 
     // Notes that a known member came, which may come once.
-    pub fn note(&mut self, key: Key, offset: usize) -> Result<(), TableFault>
+    pub(crate) fn note(&mut self, key: Key, offset: usize) -> Result<(), TableFault>
         ensures { λ r. ⌜ Notes key offset (now (self .entry)) (now (self .exit)) r ⌝ }
     {
         let i = key.index();
@@ -59,7 +59,7 @@ impl Draft {
     }
 
     // Takes the string of a known member, which stands at `offset`.
-    pub fn take(&mut self, key: Key, raw: &[u8], offset: usize) -> Result<(), TableFault>
+    pub(crate) fn take(&mut self, key: Key, raw: &[u8], offset: usize) -> Result<(), TableFault>
         ensures { λ r. ⌜ Takes (stands (now (raw .entry))) key offset (now (self .entry)) (now (self .exit)) r ⌝ }
     {
         match key {
@@ -75,7 +75,7 @@ impl Draft {
     }
 
     // The record of the object, whose closing brace stands at `brace`.
-    pub fn record(&self, brace: usize) -> Result<Record, TableFault>
+    pub(crate) fn record(&self, brace: usize) -> Result<Record, TableFault>
         ensures { λ r. ⌜ Ends brace (recordOf (now (self .entry))) r ⌝ }
     {
         match self.level {

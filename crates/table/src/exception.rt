@@ -13,7 +13,7 @@ pub enum Exception {
 
 impl Exception {
     // The exception that a string names.
-    pub fn spelled(raw: &[u8]) -> Option<Exception>
+    pub(crate) fn spelled(raw: &[u8]) -> Option<Exception>
         ensures { λ r. ⌜ r ≡ exceptionSpelled (stands (now (raw .entry))) ⌝ }
     {
         if spells(raw, b"fail") {

@@ -1,6 +1,6 @@
 // Going into an object and out again.
 ghost use mathlib.Core.Path.{_≡_};
-ghost use lib.ListN.{getD, set};
+ghost use lib.ListN.{getD, replicate, set};
 ghost use Rattle.std.specs.declared.option.Option.the-variants.{Some, None};
 ghost use Rattle.table.specs.Levels.{levelCode};
 ghost use Rattle.table.specs.Places.{entered, restored};
@@ -9,7 +9,9 @@ use crate::place::Place;
 
 impl Place {
     // Outside of every object.
-    pub fn outside() -> Place {
+    pub fn outside() -> Place
+        ensures { λ r. ⌜ r .steps ≡ replicate 7 None ⌝ }
+    {
         Place { steps: [None; 7] }
     }
 

@@ -53,7 +53,7 @@ const KEYS: [Key; 15] = [
 
 impl Key {
     // The member name that a string spells.
-    pub fn spelled(raw: &[u8]) -> Option<Key>
+    pub(crate) fn spelled(raw: &[u8]) -> Option<Key>
         ensures { λ r. ⌜ r ≡ keySpelled (stands (now (raw .entry))) ⌝ }
     {
         match position(&KEY_LETTERS, &KEY_STARTS, raw) {
@@ -63,7 +63,7 @@ impl Key {
     }
 
     // Whether it names the array of some level.
-    pub fn is_array(self) -> bool
+    pub(crate) fn is_array(self) -> bool
         ensures { λ r. ⌜ r ≡ isArrayName self ⌝ }
     {
         match self {
@@ -73,7 +73,7 @@ impl Key {
     }
 
     // Its place among the member names.
-    pub fn index(self) -> usize
+    pub(crate) fn index(self) -> usize
         ensures value { λ r. ⌜ r ≡ keyCode self ⌝ }
         ensures bound { λ r. ⌜ r < 15 ⌝ }
     {

@@ -26,7 +26,7 @@ pub enum Level {
 
 impl Level {
     // How deep it lies; the task itself at 0.
-    pub fn depth(self) -> usize
+    pub(crate) fn depth(self) -> usize
         ensures value { λ r. ⌜ r ≡ levelCode self ⌝ }
         ensures bound { λ r. ⌜ r < 7 ⌝ }
     {
@@ -34,7 +34,7 @@ impl Level {
     }
 
     // The level of the entries of the array called `key`, if it is the array of this level.
-    pub fn part(self, key: Key) -> Option<Level>
+    pub(crate) fn part(self, key: Key) -> Option<Level>
         ensures value { λ r. ⌜ r ≡ part self key ⌝ }
         ensures below { λ r. ⌜ Cases r (Unit {0}) (λ p. (levelCode p ≡ suc (levelCode self)) × (levelCode p ≤ 6)) ⌝ }
     {
@@ -50,7 +50,7 @@ impl Level {
     }
 
     // Whether its objects know a member that is no array.
-    pub fn knows(self, key: Key) -> bool
+    pub(crate) fn knows(self, key: Key) -> bool
         ensures { λ r. ⌜ r ≡ knows self key ⌝ }
     {
         match key {
@@ -66,7 +66,7 @@ impl Level {
     }
 
     // How many objects of this level an array may have.
-    pub fn limit(self) -> u32
+    pub(crate) fn limit(self) -> u32
         ensures value { λ r. ⌜ r ≡ limit self ⌝ }
         ensures bound { λ r. ⌜ r ≤ 37 ⌝ }
     {
@@ -82,14 +82,14 @@ impl Level {
     }
 
     // Whether its objects may have this exception: an action has no next stream to go to.
-    pub fn allows(self, exception: Exception) -> bool
+    pub(crate) fn allows(self, exception: Exception) -> bool
         ensures { λ r. ⌜ r ≡ allows self exception ⌝ }
     {
         self != Level::Action || exception != Exception::NextStream
     }
 
     // What an object without parts weighs beyond itself: the default parts that stand in for them.
-    pub fn weight_of_absent_parts(self) -> usize
+    pub(crate) fn weight_of_absent_parts(self) -> usize
         ensures { λ r. ⌜ r ≡ absentWeight self ⌝ }
     {
         match self {

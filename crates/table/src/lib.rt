@@ -1,17 +1,17 @@
 // From a text to the objects of a task in a lent table, or the fault that comes first.
-pub mod draft;
-pub mod exception;
-pub mod fault;
-pub mod inside;
-pub mod keys;
+mod draft;
+mod exception;
+mod fault;
+mod inside;
+mod keys;
 pub mod laws;
-pub mod level;
-pub mod limits;
-pub mod meaning;
-pub mod place;
-pub mod read;
-pub mod record;
-pub mod tally;
+mod level;
+mod limits;
+mod meaning;
+mod place;
+mod read;
+mod record;
+mod tally;
 
 pub use exception::Exception;
 pub use exception::ExceptionPartialEq;

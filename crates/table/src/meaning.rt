@@ -61,7 +61,7 @@ fn wanted_format(raw: &[u8]) -> Wanted<PixelFormat>
 
 impl Meaning {
     // What a string says as the word of an object of this level.
-    pub fn of_word(level: Level, raw: &[u8]) -> Meaning
+    pub(crate) fn of_word(level: Level, raw: &[u8]) -> Meaning
         ensures { λ r. ⌜ r ≡ wordMeaning level (stands (now (raw .entry))) ⌝ }
     {
         match level {
@@ -74,7 +74,7 @@ impl Meaning {
     }
 
     // What the value of a value object says: a value word or a number within 32 bits; anything else is offered nowhere.
-    pub fn of_value(token: Token) -> Meaning
+    pub(crate) fn of_value(token: Token) -> Meaning
         ensures { λ r. ⌜ ((t : List ℕ) → Holds t (token .entry) → r ≡ valueMeaning (kindOf (token .entry)) t) ⌝ }
     {
         match token {
