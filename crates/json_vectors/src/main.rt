@@ -1,4 +1,6 @@
 // Reads each text of data/ whose name stands on standard input, and prints its name and what comes of it.
+#![tactic(auto)]
+
 use std::{fs, io};
 
 fn main(rt: HostRuntime) -> io::Result<()> {

@@ -1,4 +1,6 @@
 // A lock over any scanner: it bans values from what is offered.
+#![tactic(auto)]
+
 mod ban;
 pub mod locks;
 

@@ -1,4 +1,6 @@
 // The vocabulary of the task language: 64 names, the types that they name, and how a string is looked up among them.
+#![tactic(auto)]
+
 pub mod kinds;
 pub mod letters;
 pub mod lists;

@@ -1,4 +1,6 @@
 // Whether a task can be met by a scanner, and by which plan.
+#![tactic(auto)]
+
 pub mod inspect;
 pub mod plan;
 pub mod settle;

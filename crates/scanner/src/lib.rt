@@ -1,4 +1,6 @@
 // What a scanner means, and how a plan is put into one.
+#![tactic(auto)]
+
 pub mod meaning;
 pub mod plan;
 pub mod point;

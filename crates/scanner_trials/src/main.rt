@@ -1,4 +1,6 @@
 // Fills table scanners and locks, puts questions to them and prints the answers.
+#![tactic(auto)]
+
 use lock::{Lock, swapped};
 use names::{Attribute, PixelFormat, Source, Value, Word};
 use scanner::{Item, Point, Scanner, put_in};

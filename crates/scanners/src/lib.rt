@@ -1,4 +1,6 @@
 // The flatbed, and what the supplied scanners share: the one search, values by word and range, and refusals.
+#![tactic(auto)]
+
 pub mod fault;
 pub mod flatbed;
 pub mod range;

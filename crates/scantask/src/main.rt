@@ -1,4 +1,6 @@
 // Submits standard input to a new flatbed session, and prints the reply or the complaint.
+#![tactic(auto)]
+
 ghost use Rattle.std.specs.Prelude.{◌≡◌, ◌≤◌, length, IfOk};
 
 use anyhow::anyhow;

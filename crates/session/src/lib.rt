@@ -1,4 +1,6 @@
 // A session: a scanner in use, and the plan that it was given last.
+#![tactic(auto)]
+
 mod calls;
 mod complaints;
 mod fault;

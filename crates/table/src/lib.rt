@@ -1,4 +1,6 @@
 // From a text to the objects of a task in a lent table, or the fault that comes first.
+#![tactic(auto)]
+
 mod draft;
 mod exception;
 mod fault;

@@ -1,4 +1,6 @@
 // The table scanner: a scanner that is filled by a setup tool, entry by entry.
+#![tactic(auto)]
+
 mod entry;
 pub mod fill;
 pub mod table;

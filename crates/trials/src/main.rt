@@ -1,5 +1,7 @@
 // Puts worked tasks through sessions on the flatbed and prints a line for each:
 // the answer, then how each pair stands once the session is closed (enabled or not, resolution, brightness, compression).
+#![tactic(auto)]
+
 ghost use Rattle.std.specs.Prelude.{◌≤◌, length, IfOk};
 
 use anyhow::anyhow;

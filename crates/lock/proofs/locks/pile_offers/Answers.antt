@@ -7,4 +7,4 @@ pub returns : goal.returns
 returns g c =
     let x = c.args.pile.now in
     let union = pile_union (g.S.Scanner.catalogue x.below.below) (forbidden (vec_items x.below.bans)) (forbidden (vec_items x.bans)) in
-    record { answer = c.offers-value.ensures ∙ ap (λ k. k.offers_value c.args.point c.args.value) union; law = pile_union }
+    record { answer = c.offers_value.ensures ∙ ap (λ k. k.offers_value c.args.point c.args.value) union; law = pile_union }

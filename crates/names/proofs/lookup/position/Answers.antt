@@ -14,7 +14,7 @@ loop-next-preserved c =
     let i = c.loop-next.next - 1 in
     let e = names_count c.args.letters.now c.args.starts.now in
     let h : i < length ns = omega arith in
-    let m : matching false x (get_or ns i []) ≡ false = ap (matching false x) (sym c.name-at.ensures) ∙ tested _ _ _ c.spells.ensures ∙ c.if-spells.false in
+    let m : matching false x (get_or ns i []) ≡ false = ap (matching false x) (sym c.name_at.ensures) ∙ tested _ _ _ c.spells.ensures ∙ c.if-spells.false in
     let k : i + 1 ≡ c.loop-next.next + 1 - 1 = omega arith in
     c.loop-next.invariant ∙ next_name x ns i h m ∙ ap (λ j. further j (place x (drop j ns))) k
 
@@ -25,7 +25,7 @@ returns-then-spells c =
     let i = c.loop-next.next - 1 in
     let e = names_count c.args.letters.now c.args.starts.now in
     let h : i < length ns = omega arith in
-    let m : matching false x (get_or ns i []) ≡ true = ap (matching false x) (sym c.name-at.ensures) ∙ tested _ _ _ c.spells.ensures ∙ c.if-spells.true in
+    let m : matching false x (get_or ns i []) ≡ true = ap (matching false x) (sym c.name_at.ensures) ∙ tested _ _ _ c.spells.ensures ∙ c.if-spells.true in
     record { value = sym (c.loop-next.invariant ∙ first_name x ns i h m); bound = omega arith }
 
 pub returns : goal.returns

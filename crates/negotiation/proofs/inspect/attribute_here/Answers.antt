@@ -16,26 +16,26 @@ use Rattle.negotiation.proofs.inspect.attribute_here.Goals as goal
 chose : (q : Place) (d : Exception) (p : Point) (a b : Choice) (old new : List Item) (r : Result (Unit {0}) Trouble) → a ≡ b → Went (choice_troubles q d a) (line_of p a) old new r → Went (choice_troubles q d b) (line_of p b) old new r
 chose q d p a b old new r e w = subst (λ x. Went (choice_troubles q d x) (line_of p x) old new r) e w
 
-pub returns-in-err-note : goal.returns-in-err-note
-returns-in-err-note g c = record { place = refl; went = object_broke _ _ _ _ _ _ _ _ _ c.from-residual.ensures.1 c.in-err-note.ensures }
+pub returns-in_err-note : goal.returns-in_err-note
+returns-in_err-note g c = record { place = refl; went = object_broke _ _ _ _ _ _ _ _ _ c.from_residual.ensures.1 c.in_err-note.ensures }
 
-pub returns-in-default : goal.returns-in-default
-returns-in-default g c = record { place = refl; went = object_out _ _ _ _ _ _ _ _ c.in-ok-note.ensures c.in-default.ensures refl c.note-in-default.ensures }
+pub returns-in_default : goal.returns-in_default
+returns-in_default g c = record { place = refl; went = object_out _ _ _ _ _ _ _ _ c.in_ok-note.ensures c.in_default.ensures refl c.note-in_default.ensures }
 
 pub returns-in-Unset : goal.returns-in-Unset
 returns-in-Unset g c = record {
   place = refl;
-  went = object_in _ _ _ _ _ _ _ _ _ c.in-ok-note.ensures c.in-Some.ensures (chose c.args.place.now c.args.force c.in-Some.point _ _ _ _ _ c.in-Unset.ensures.value (record { decided = refl; added = λ _. ap fitted (sym (append-nil _)) }));
+  went = object_in _ _ _ _ _ _ _ _ _ c.in_ok-note.ensures c.in-Some.ensures (chose c.args.place.now c.args.force c.in-Some.point _ _ _ _ _ c.in-Unset.ensures.value (record { decided = refl; added = λ _. ap fitted (sym (append-nil _)) }));
 }
 
 pub returns-in-Taken : goal.returns-in-Taken
 returns-in-Taken g c = record {
   place = refl;
-  went = object_in _ _ _ _ _ _ _ _ _ c.in-ok-note.ensures c.in-Some.ensures (chose c.args.place.now c.args.force c.in-Some.point _ _ _ _ _ c.in-Taken.ensures.value (record { decided = refl; added = λ _. ap fitted c.push.ensures ∙ fit_again _ }));
+  went = object_in _ _ _ _ _ _ _ _ _ c.in_ok-note.ensures c.in-Some.ensures (chose c.args.place.now c.args.force c.in-Some.point _ _ _ _ _ c.in-Taken.ensures.value (record { decided = refl; added = λ _. ap fitted c.push.ensures ∙ fit_again _ }));
 }
 
 pub returns-in-Closed : goal.returns-in-Closed
 returns-in-Closed g c = record {
   place = c.untaken.ensures.place;
-  went = object_in _ _ _ _ _ _ _ _ _ c.in-ok-note.ensures c.in-Some.ensures (chose c.args.place.now c.args.force c.in-Some.point _ _ _ _ _ c.in-Closed.ensures.value (noted_went _ _ _ _ refl c.untaken.ensures.noted));
+  went = object_in _ _ _ _ _ _ _ _ _ c.in_ok-note.ensures c.in-Some.ensures (chose c.args.place.now c.args.force c.in-Some.point _ _ _ _ _ c.in-Closed.ensures.value (noted_went _ _ _ _ refl c.untaken.ensures.noted));
 }

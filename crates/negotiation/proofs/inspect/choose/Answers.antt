@@ -17,7 +17,7 @@ pub values-preserved : goal.values-preserved
 values-preserved g c =
     let k = g.S.Scanner.catalogue c.args.scanner.now in
     let p = c.args.point in
-    let e = value_here k p c.values.choice c.args.records.now c.values.record-index _ _ _ _ c.values-test.true c.in-Value.is c.in-default-offered-value.ensures in
+    let e = value_here k p c.values.choice c.args.records.now c.values.record-index _ _ _ _ c.values-test.true c.in-Value.is c.in_default-offered_value.ensures in
     let h = c.in-Value.head in
     let d = close_off h.exception _ (Closed h) (chosen_from k p (Closed h) (values_in (drop (c.values.record-index + 1) c.args.records.now))) c.closes.ensures c.if-closes.false in
     sym d ∙ sym e ∙ c.values.invariant
@@ -30,11 +30,11 @@ returns-after-values g c =
       law = chosen_once k c.args.point (values_in c.args.records.now);
     }
 
-pub returns-in-default : goal.returns-in-default
-returns-in-default g c =
+pub returns-in_default : goal.returns-in_default
+returns-in_default g c =
     let k = g.S.Scanner.catalogue c.args.scanner.now in
     record {
-      value = sym (none_here k c.args.point c.values.choice c.args.records.now c.values.record-index _ c.values-test.true c.in-default.not-Value) ∙ c.values.invariant;
+      value = sym (none_here k c.args.point c.values.choice c.args.records.now c.values.record-index _ c.values-test.true c.in_default.not-Value) ∙ c.values.invariant;
       law = chosen_once k c.args.point (values_in c.args.records.now);
     }
 
@@ -42,7 +42,7 @@ pub returns-then-closes : goal.returns-then-closes
 returns-then-closes g c =
     let k = g.S.Scanner.catalogue c.args.scanner.now in
     let p = c.args.point in
-    let e = value_here k p c.values.choice c.args.records.now c.values.record-index _ _ _ _ c.values-test.true c.in-Value.is c.in-default-offered-value.ensures in
+    let e = value_here k p c.values.choice c.args.records.now c.values.record-index _ _ _ _ c.values-test.true c.in-Value.is c.in_default-offered_value.ensures in
     let h = c.in-Value.head in
     let d = close_on h.exception _ (Closed h) (chosen_from k p (Closed h) (values_in (drop (c.values.record-index + 1) c.args.records.now))) c.closes.ensures c.if-closes.true in
     record { value = sym d ∙ sym e ∙ c.values.invariant; law = chosen_once k p (values_in c.args.records.now) }

@@ -33,20 +33,20 @@ Y k s h w rs = format_items k s (format_of h w rs)
 pub formats-init : goal.formats-init
 formats-init g c = record { place = refl; on = record { passed = refl; added = refl } }
 
-pub returns-in-err-format : goal.returns-in-err-format
-returns-in-err-format g c =
+pub returns-in_err-format : goal.returns-in_err-format
+returns-in_err-format g c =
     let k = g.S.Scanner.catalogue c.args.scanner.now in
     let a = c.in-PixelFormat in
     record {
       place = c.format.ensures.place ∙ c.formats.invariant.place;
-      went = along_left (T k c.args.source c.args.place.now c.args.parent) (X k c.args.source) (F k c.args.source c.args.parent a.head a.word) (Y k c.args.source a.head a.word) _ c.formats.invariant c.formats-test.true a.is c.after.ensures refl c.from-residual.ensures.1 c.in-err-format.ensures.went;
+      went = along_left (T k c.args.source c.args.place.now c.args.parent) (X k c.args.source) (F k c.args.source c.args.parent a.head a.word) (Y k c.args.source a.head a.word) _ c.formats.invariant c.formats-test.true a.is c.after.ensures refl c.from_residual.ensures.1 c.in_err-format.ensures.went;
     }
 
 pub formats-preserved : goal.formats-preserved
 formats-preserved g c =
     let k = g.S.Scanner.catalogue c.args.scanner.now in
     let a = c.in-PixelFormat in
-    along_past (T k c.args.source c.args.place.now c.args.parent) (X k c.args.source) (F k c.args.source c.args.parent a.head a.word) (Y k c.args.source a.head a.word) _ c.formats.invariant c.formats-test.true a.is c.after.ensures refl refl c.format.ensures.place c.in-ok-format.ensures.went
+    along_past (T k c.args.source c.args.place.now c.args.parent) (X k c.args.source) (F k c.args.source c.args.parent a.head a.word) (Y k c.args.source a.head a.word) _ c.formats.invariant c.formats-test.true a.is c.after.ensures refl refl c.format.ensures.place c.in_ok-format.ensures.went
 
 pub formats-preserved-in-Value : goal.formats-preserved-in-Value
 formats-preserved-in-Value g c =
@@ -66,10 +66,10 @@ returns-after-formats g c =
       went = along_end (T k c.args.source c.args.place.now c.args.parent) (X k c.args.source) c.formats.invariant c.formats-test.false refl refl;
     }
 
-pub returns-in-default : goal.returns-in-default
-returns-in-default g c =
+pub returns-in_default : goal.returns-in_default
+returns-in_default g c =
     let k = g.S.Scanner.catalogue c.args.scanner.now in
-    let z = formats_end _ (drop (c.formats.i + 1) c.args.records.now) c.in-default.not-PixelFormat c.in-default.not-Attribute c.in-default.not-Value in
+    let z = formats_end _ (drop (c.formats.i + 1) c.args.records.now) c.in_default.not-PixelFormat c.in_default.not-Attribute c.in_default.not-Value in
     record {
       place = c.formats.invariant.place;
       went = along_stop (T k c.args.source c.args.place.now c.args.parent) (X k c.args.source) _ c.formats.invariant c.formats-test.true (ap (formats_troubles k c.args.source c.args.place.now c.args.parent) z) (ap (formats_items k c.args.source) z);

@@ -6,8 +6,8 @@ use Rattle.negotiation.specs.Tellings.{held}
 use Rattle.negotiation.proofs.Goings.{else_none, else_some, else_broke}
 use Rattle.negotiation.proofs.inspect.formats_or_home.Goals as goal
 
-pub returns-in-err-formats : goal.returns-in-err-formats
-returns-in-err-formats g c = record { place = c.formats.ensures.place; went = else_broke c.from-residual.ensures.1 c.in-err-formats.ensures.went }
+pub returns-in_err-formats : goal.returns-in_err-formats
+returns-in_err-formats g c = record { place = c.formats.ensures.place; went = else_broke c.from_residual.ensures.1 c.in_err-formats.ensures.went }
 
 pub returns-then-len-before : goal.returns-then-len-before
 returns-then-len-before g c =
@@ -17,7 +17,7 @@ returns-then-len-before g c =
     let same : length (held c.formats.new.plan) ≡ length (held c.args.plan.now) = omega (arith, c.len.ensures, c.len-before.ensures, c.if-len-before.true) in
     record {
       place = c.formats.ensures.place;
-      went = else_none (home_pair k c.args.source) c.in-ok-formats.ensures.went same (c.push.ensures ∙ ap (λ (f : PixelFormat). fitted (held c.formats.new.plan ++ (Item.Pair c.args.source f ∷ []))) c.home-format.ensures);
+      went = else_none (home_pair k c.args.source) c.in_ok-formats.ensures.went same (c.push.ensures ∙ ap (λ (f : PixelFormat). fitted (held c.formats.new.plan ++ (Item.Pair c.args.source f ∷ []))) c.home_format.ensures);
     }
 
 pub returns-else-len-before : goal.returns-else-len-before
@@ -30,5 +30,5 @@ returns-else-len-before g c =
     let more : length (held c.formats.new.plan) ≡ length (held c.args.plan.now) → ⊥ = λ e. c.if-len-before.false (omega (arith, c.len.ensures, c.len-before.ensures)) in
     record {
       place = c.formats.ensures.place;
-      went = else_some (home_pair k c.args.source) c.in-ok-formats.ensures.went old new more;
+      went = else_some (home_pair k c.args.source) c.in_ok-formats.ensures.went old new more;
     }

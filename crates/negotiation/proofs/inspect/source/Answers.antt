@@ -9,5 +9,5 @@ use Rattle.negotiation.proofs.inspect.source.Goals as goal
 pub returns : goal.returns
 returns g c = record {
   place = let back = left_again c.args.place.now Source c.args.head.index in search rules;
-  went = went_at (λ q d. source_here (g.S.Scanner.catalogue c.args.scanner.now) q d (source_of c.args.head c.args.word c.args.records.now)) _ _ _ _ _ _ _ _ c.enter-outer.ensures.after c.in-force-force.ensures c.source-here.ensures.went;
+  went = went_at (λ q d. source_here (g.S.Scanner.catalogue c.args.scanner.now) q d (source_of c.args.head c.args.word c.args.records.now)) _ _ _ _ _ _ _ _ c.enter-outer.ensures.after c.in_force-force.ensures c.source_here.ensures.went;
 }

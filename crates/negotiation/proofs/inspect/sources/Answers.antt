@@ -32,20 +32,20 @@ Y k h w rs = source_items k (source_of h w rs)
 pub sources-init : goal.sources-init
 sources-init g c = record { place = refl; on = record { passed = refl; added = refl } }
 
-pub returns-in-err-source : goal.returns-in-err-source
-returns-in-err-source g c =
+pub returns-in_err-source : goal.returns-in_err-source
+returns-in_err-source g c =
     let k = g.S.Scanner.catalogue c.args.scanner.now in
     let a = c.in-Source in
     record {
       place = c.source.ensures.place ∙ c.sources.invariant.place;
-      went = along_left (T k c.args.place.now c.args.parent) (X k) (F k c.args.parent a.head a.word) (Y k a.head a.word) _ c.sources.invariant c.sources-test.true a.is c.after.ensures refl c.from-residual.ensures.1 c.in-err-source.ensures.went;
+      went = along_left (T k c.args.place.now c.args.parent) (X k) (F k c.args.parent a.head a.word) (Y k a.head a.word) _ c.sources.invariant c.sources-test.true a.is c.after.ensures refl c.from_residual.ensures.1 c.in_err-source.ensures.went;
     }
 
 pub sources-preserved : goal.sources-preserved
 sources-preserved g c =
     let k = g.S.Scanner.catalogue c.args.scanner.now in
     let a = c.in-Source in
-    along_past (T k c.args.place.now c.args.parent) (X k) (F k c.args.parent a.head a.word) (Y k a.head a.word) _ c.sources.invariant c.sources-test.true a.is c.after.ensures refl refl c.source.ensures.place c.in-ok-source.ensures.went
+    along_past (T k c.args.place.now c.args.parent) (X k) (F k c.args.parent a.head a.word) (Y k a.head a.word) _ c.sources.invariant c.sources-test.true a.is c.after.ensures refl refl c.source.ensures.place c.in_ok-source.ensures.went
 
 pub sources-preserved-in-Value : goal.sources-preserved-in-Value
 sources-preserved-in-Value g c =
@@ -70,10 +70,10 @@ returns-after-sources g c =
       went = along_end (T k c.args.place.now c.args.parent) (X k) c.sources.invariant c.sources-test.false refl refl;
     }
 
-pub returns-in-default : goal.returns-in-default
-returns-in-default g c =
+pub returns-in_default : goal.returns-in_default
+returns-in_default g c =
     let k = g.S.Scanner.catalogue c.args.scanner.now in
-    let z = sources_end _ (drop (c.sources.i + 1) c.args.records.now) c.in-default.not-Source c.in-default.not-PixelFormat c.in-default.not-Attribute c.in-default.not-Value in
+    let z = sources_end _ (drop (c.sources.i + 1) c.args.records.now) c.in_default.not-Source c.in_default.not-PixelFormat c.in_default.not-Attribute c.in_default.not-Value in
     record {
       place = c.sources.invariant.place;
       went = along_stop (T k c.args.place.now c.args.parent) (X k) _ c.sources.invariant c.sources-test.true (ap (sources_troubles k c.args.place.now c.args.parent) z) (ap (sources_items k) z);

@@ -9,5 +9,5 @@ use Rattle.negotiation.proofs.inspect.stream.Goals as goal
 pub returns : goal.returns
 returns g c = record {
   place = let back = left_again c.args.place.now Stream c.args.head.index in search rules;
-  went = went_at (λ q d. stream_here (g.S.Scanner.catalogue c.args.scanner.now) q d (stream_of c.args.head c.args.records.now)) _ _ _ _ _ _ _ _ c.enter-outer.ensures.after refl c.stream-here.ensures.went;
+  went = went_at (λ q d. stream_here (g.S.Scanner.catalogue c.args.scanner.now) q d (stream_of c.args.head c.args.records.now)) _ _ _ _ _ _ _ _ c.enter-outer.ensures.after refl c.stream_here.ensures.went;
 }

@@ -9,13 +9,13 @@ use Rattle.negotiation.proofs.Rooms.{fit_all}
 use Rattle.negotiation.proofs.Goings.{broke, noted_then, went_from, else_none, else_some, else_broke}
 use Rattle.negotiation.proofs.inspect.stream_here.Goals as goal
 
-pub returns-in-err-note : goal.returns-in-err-note
-returns-in-err-note g c = record { place = refl; went = broke (one_if c.args.head.unknown (trouble_at c.args.place.now c.args.head c.args.force)) (sources_troubles (g.S.Scanner.catalogue c.args.scanner.now) c.args.place.now c.args.force (sources_in c.args.records.now)) _ _ _ _ _ c.from-residual.ensures.1 c.in-err-note.ensures.decided }
+pub returns-in_err-note : goal.returns-in_err-note
+returns-in_err-note g c = record { place = refl; went = broke (one_if c.args.head.unknown (trouble_at c.args.place.now c.args.head c.args.force)) (sources_troubles (g.S.Scanner.catalogue c.args.scanner.now) c.args.place.now c.args.force (sources_in c.args.records.now)) _ _ _ _ _ c.from_residual.ensures.1 c.in_err-note.ensures.decided }
 
-pub returns-in-err-sources : goal.returns-in-err-sources
-returns-in-err-sources g c = record {
+pub returns-in_err-sources : goal.returns-in_err-sources
+returns-in_err-sources g c = record {
   place = c.sources.ensures.place;
-  went = noted_then (one_if c.args.head.unknown (trouble_at c.args.place.now c.args.head c.args.force)) (sources_troubles (g.S.Scanner.catalogue c.args.scanner.now) c.args.place.now c.args.force (sources_in c.args.records.now)) _ _ _ _ c.in-ok-note.ensures (else_broke c.from-residual-in-err-sources.ensures.1 (went_from c.clear.ensures c.in-err-sources.ensures.went));
+  went = noted_then (one_if c.args.head.unknown (trouble_at c.args.place.now c.args.head c.args.force)) (sources_troubles (g.S.Scanner.catalogue c.args.scanner.now) c.args.place.now c.args.force (sources_in c.args.records.now)) _ _ _ _ c.in_ok-note.ensures (else_broke c.from_residual-in_err-sources.ensures.1 (went_from c.clear.ensures c.in_err-sources.ensures.went));
 }
 
 pub returns-then-len-eq0 : goal.returns-then-len-eq0
@@ -23,10 +23,10 @@ returns-then-len-eq0 g c =
     let k = g.S.Scanner.catalogue c.args.scanner.now in
     let b = c.sources.new.plan.items.ok.0 in
     let none : length (held c.sources.new.plan) ≡ 0 = omega (arith, c.len.ensures, c.if-len-eq0.true) in
-    let new = c.default-plan.ensures ∙ sym (fit_all (default_items k) (omega arith)) ∙ ap (λ (l : List Item). fitted (l ++ default_items k)) (sym (nil_from_length (held c.sources.new.plan) none)) in
+    let new = c.default_plan.ensures ∙ sym (fit_all (default_items k) (omega arith)) ∙ ap (λ (l : List Item). fitted (l ++ default_items k)) (sym (nil_from_length (held c.sources.new.plan) none)) in
     record {
       place = c.sources.ensures.place;
-      went = noted_then (one_if c.args.head.unknown (trouble_at c.args.place.now c.args.head c.args.force)) (sources_troubles k c.args.place.now c.args.force (sources_in c.args.records.now)) _ _ _ _ c.in-ok-note.ensures (else_none (default_items k) (went_from c.clear.ensures c.in-ok-sources.ensures.went) none new);
+      went = noted_then (one_if c.args.head.unknown (trouble_at c.args.place.now c.args.head c.args.force)) (sources_troubles k c.args.place.now c.args.force (sources_in c.args.records.now)) _ _ _ _ c.in_ok-note.ensures (else_none (default_items k) (went_from c.clear.ensures c.in_ok-sources.ensures.went) none new);
     }
 
 pub returns-else-len-eq0 : goal.returns-else-len-eq0
@@ -37,5 +37,5 @@ returns-else-len-eq0 g c =
     let some : length (held c.sources.new.plan) ≡ 0 → ⊥ = λ e. c.if-len-eq0.false (omega (arith, c.len.ensures)) in
     record {
       place = c.sources.ensures.place;
-      went = noted_then (one_if c.args.head.unknown (trouble_at c.args.place.now c.args.head c.args.force)) (sources_troubles k c.args.place.now c.args.force (sources_in c.args.records.now)) _ _ _ _ c.in-ok-note.ensures (else_some (default_items k) (went_from c.clear.ensures c.in-ok-sources.ensures.went) (omega arith) bound some);
+      went = noted_then (one_if c.args.head.unknown (trouble_at c.args.place.now c.args.head c.args.force)) (sources_troubles k c.args.place.now c.args.force (sources_in c.args.records.now)) _ _ _ _ c.in_ok-note.ensures (else_some (default_items k) (went_from c.clear.ensures c.in_ok-sources.ensures.went) (omega arith) bound some);
     }

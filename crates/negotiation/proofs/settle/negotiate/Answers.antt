@@ -8,30 +8,30 @@ use Rattle.negotiation.proofs.Telling.{negotiated}
 use Rattle.negotiation.proofs.settle.negotiate.Goals as goal
 use Rattle.negotiation.proofs.settle.negotiate.Goals.{in-Configured, in-Unchanged}
 
-pub actions-preserved-in-default : goal.actions-preserved-in-default
-actions-preserved-in-default g c =
+pub actions-preserved-in_default : goal.actions-preserved-in_default
+actions-preserved-in_default g c =
     let k = g.S.Scanner.catalogue c.args.scanner.now in
-    judge_over k c.actions.i _ c.actions-test.true c.in-default.not-Action c.in-default.not-Vacant c.actions.invariant
+    judge_over k c.actions.i _ c.actions-test.true c.in_default.not-Action c.in_default.not-Vacant c.actions.invariant
 
 pub actions-preserved : goal.actions-preserved
 actions-preserved g c =
     let k = g.S.Scanner.catalogue c.args.scanner.now in
     let a = c.in-Action in
     elim c.match-branch-2.branch [
-      | in-Configured w ↦ judged_to k w.verdict-is (judge_planned k c.actions.i _ a.head a.word a.entries c.actions-test.true a.is c.after.ensures c.action.ensures.place c.actions.invariant (acted_to w.in-Configured.is c.in-ok-action.ensures.acted))
-      | in-Unchanged w ↦ judged_to k w.verdict-is (judge_unchanged k c.actions.i _ a.head a.word a.entries c.actions-test.true a.is c.after.ensures c.action.ensures.place c.actions.invariant (acted_to w.in-Unchanged.is c.in-ok-action.ensures.acted))
+      | in-Configured w ↦ judged_to k w.verdict-is (judge_planned k c.actions.i _ a.head a.word a.entries c.actions-test.true a.is c.after.ensures c.action.ensures.place c.actions.invariant (acted_to w.in-Configured.is c.in_ok-action.ensures.acted))
+      | in-Unchanged w ↦ judged_to k w.verdict-is (judge_unchanged k c.actions.i _ a.head a.word a.entries c.actions-test.true a.is c.after.ensures c.action.ensures.place c.actions.invariant (acted_to w.in-Unchanged.is c.in_ok-action.ensures.acted))
     ]
 
-pub returns-in-err-action : goal.returns-in-err-action
-returns-in-err-action g c =
+pub returns-in_err-action : goal.returns-in_err-action
+returns-in_err-action g c =
     let x = c.args.scanner.now in
     let k = g.S.Scanner.catalogue x in
     let a = c.in-Action in
     record {
       place = c.action.ensures.place ∙ c.actions.invariant.place;
       negotiated = negotiated k (g.met.S.Scanner.home_source_offered x) (g.met.S.Scanner.home_format_offered x) c.args.place.now (actions_in c.args.records.now) _ _ _
-          (judge_rejected k _ _ c.actions.i _ a.head a.word a.entries c.actions-test.true a.is c.after.ensures c.actions.invariant c.in-err-action.ensures.acted c.from-residual.ensures.1)
-          (no_verdict _ _ Unchanged c.from-residual.ensures.1);
+          (judge_rejected k _ _ c.actions.i _ a.head a.word a.entries c.actions-test.true a.is c.after.ensures c.actions.invariant c.in_err-action.ensures.acted c.from_residual.ensures.1)
+          (no_verdict _ _ Unchanged c.from_residual.ensures.1);
     }
 
 pub returns-after-actions : goal.returns-after-actions

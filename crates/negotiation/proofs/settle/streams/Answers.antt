@@ -15,9 +15,9 @@ use Rattle.negotiation.proofs.settle.streams.Goals.{else-streams-test, then-stre
 pub streams-init : goal.streams-init
 streams-init g c = record { place = refl; same = refl }
 
-pub streams-preserved-in-default : goal.streams-preserved-in-default
-streams-preserved-in-default g c =
-    try_over _ _ _ c.streams.i _ c.streams-test.true c.in-default.not-Stream c.in-default.not-Action c.in-default.not-Vacant c.streams.invariant
+pub streams-preserved-in_default : goal.streams-preserved-in_default
+streams-preserved-in_default g c =
+    try_over _ _ _ c.streams.i _ c.streams-test.true c.in_default.not-Stream c.in_default.not-Action c.in_default.not-Vacant c.streams.invariant
 
 pub returns-in-Ok : goal.returns-in-Ok
 returns-in-Ok g c =
@@ -26,7 +26,7 @@ returns-in-Ok g c =
     let rest = drop (c.streams.i + 1) c.args.records.now in
     let h = c.in-Stream.head in
     let t = try_at f c.args.action c.args.entries c.streams.i _ _ c.streams-test.true c.in-Stream.is c.streams.invariant in
-    let w = tried k c.args.action c.args.entries h c.streams.invariant.place c.after.ensures c.stream-force-force.ensures c.in-Ok.ensures.went in
+    let w = tried k c.args.action c.args.entries h c.streams.invariant.place c.after.ensures c.stream_force-force.ensures c.in-Ok.ensures.went in
     let b = c.stream.new.plan.items.ok.0 in
     let bound : length (held c.stream.new.plan) ≤ plan_room = omega (arith, c.stream.new.plan.bound) in
     record {
@@ -40,7 +40,7 @@ returns-in-Fail g c =
     let f = stream_troubles k c.args.place.now in
     let h = c.in-Stream.head in
     let t = try_at f c.args.action c.args.entries c.streams.i _ _ c.streams-test.true c.in-Stream.is c.streams.invariant in
-    let w = tried k c.args.action c.args.entries h c.streams.invariant.place c.after.ensures c.stream-force-force.ensures c.in-Err.ensures.went in
+    let w = tried k c.args.action c.args.entries h c.streams.invariant.place c.after.ensures c.stream_force-force.ensures c.in-Err.ensures.went in
     record {
       place = c.stream.ensures.place ∙ c.streams.invariant.place;
       told = ap rejected c.fails.ensures ∙ ap (λ e. in_room (outcome_of k e)) (try_stops f c.args.action c.args.entries h c.in-Err.trouble t w.decided c.in-Fail.is);
@@ -52,8 +52,8 @@ streams-preserved g c =
     let f = stream_troubles k c.args.place.now in
     let h = c.in-Stream.head in
     let t = try_at f c.args.action c.args.entries c.streams.i _ _ c.streams-test.true c.in-Stream.is c.streams.invariant in
-    let w = tried k c.args.action c.args.entries h c.streams.invariant.place c.after.ensures c.stream-force-force.ensures c.in-Err.ensures.went in
-    try_passes f c.args.action c.args.entries h c.in-Err.trouble t c.stream.ensures.place w.decided c.in-default-exception.not-Fail
+    let w = tried k c.args.action c.args.entries h c.streams.invariant.place c.after.ensures c.stream_force-force.ensures c.in-Err.ensures.went in
+    try_passes f c.args.action c.args.entries h c.in-Err.trouble t c.stream.ensures.place w.decided c.in_default-exception.not-Fail
 
 pub returns-in-Some : goal.returns-in-Some
 returns-in-Some g c =
@@ -82,5 +82,5 @@ returns-in-None g c =
     ] in
     record {
       place = c.streams.invariant.place;
-      told = ap planned (c.default-plan.ensures ∙ sym (fit_all (default_items k) (omega arith))) ∙ ap (λ e. in_room (outcome_of k e)) (ap at_end (sym c.in-None.is) ∙ try_end f c.args.action c.args.entries none c.streams.invariant);
+      told = ap planned (c.default_plan.ensures ∙ sym (fit_all (default_items k) (omega arith))) ∙ ap (λ e. in_room (outcome_of k e)) (ap at_end (sym c.in-None.is) ∙ try_end f c.args.action c.args.entries none c.streams.invariant);
     }

@@ -13,7 +13,7 @@ loop-item-init g c =
 
 pub loop-item-preserved : goal.loop-item-preserved
 loop-item-preserved g c =
-    let e = c.put-item.ensures in
+    let e = c.put_item.ensures in
     going_more _ c.args.plan.now c.loop-item.item-index _ _ _ _ _ c.loop-item.invariant c.loop-item-test.true e.same e.after
 
 pub returns : goal.returns

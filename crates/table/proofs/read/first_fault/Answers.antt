@@ -8,5 +8,5 @@ returns-in-Ok c old new p = form_stays c.args.text.now old new c.args.fault _ _ 
 pub returns-in-Err : goal.returns-in-Err
 returns-in-Err c old new p = text_first c.args.text.now (length new) _ c.in-Err.ensures.exact
 
-pub returns-in-default : goal.returns-in-default
-returns-in-default c old new p = stands_so c.args.text.now old new c.args.fault c.in-default.not-Form p
+pub returns-in_default : goal.returns-in_default
+returns-in_default c old new p = stands_so c.args.text.now old new c.args.fault c.in_default.not-Form p

@@ -9,5 +9,5 @@ returns-in-Ok c =
 
 pub returns-in-Err : goal.returns-in-Err
 returns-in-Err c =
-    let p = c.first-fault.ensures c.args.table.now c.pass.new.table c.in-Err.ensures.reads in
-    record { place = c.pass.ensures.place; reads = p; task = holds_task c.args.text.now c.pass.new.table (Err c.first-fault.result) p }
+    let p = c.first_fault.ensures c.args.table.now c.pass.new.table c.in-Err.ensures.reads in
+    record { place = c.pass.ensures.place; reads = p; task = holds_task c.args.text.now c.pass.new.table (Err c.first_fault.result) p }

@@ -40,14 +40,14 @@ done n i xs h = rw (drop_all i xs h) refl
 last : (m : ℕ) (xs : List ℕ) (n i : ℕ) → length xs ≤ i → (length xs ≡ 0 → ⊥) → (0 < i → magnitude xs ≡ decimal n (drop i xs)) → up_to m (Some n) ≡ up_to m (magnitude xs)
 last m xs n i h z b = let p : 0 < i = ⊎_elim (λ l. l) (λ l. absurd (z (omega arith))) (cases_lt 0 i) in ap (up_to m) (sym (b p ∙ done n i xs h))
 
-pub returns-in-default : goal.returns-in-default
-returns-in-default c = over_most c.args.most _ _ _ c.loop-i-test.true (λ z. grind (arith, nat_tests, z)) (turn _ _ _ c.loop-i-test.true c.loop-i.invariant.0 c.loop-i.invariant.1 (λ _ e _. omega arith))
+pub returns-in_default : goal.returns-in_default
+returns-in_default c = over_most c.args.most _ _ _ c.loop-i-test.true (λ z. grind (arith, nat_tests, z)) (turn _ _ _ c.loop-i-test.true c.loop-i.invariant.0 c.loop-i.invariant.1 (λ _ e _. omega arith))
 
-pub returns-in-default·2 : goal.returns-in-default·2
-returns-in-default·2 c = over_most c.args.most _ _ _ c.loop-i-test.true (λ z. grind (arith, nat_tests, z)) (turn _ _ _ c.loop-i-test.true c.loop-i.invariant.0 c.loop-i.invariant.1 (λ _ e _. omega arith))
+pub returns-in_default-2 : goal.returns-in_default-2
+returns-in_default-2 c = over_most c.args.most _ _ _ c.loop-i-test.true (λ z. grind (arith, nat_tests, z)) (turn _ _ _ c.loop-i-test.true c.loop-i.invariant.0 c.loop-i.invariant.1 (λ _ e _. omega arith))
 
-pub returns-in-default·3 : goal.returns-in-default·3
-returns-in-default·3 c = over_most c.args.most _ _ _ c.loop-i-test.true (λ z. grind (arith, nat_tests, z)) (turn _ _ _ c.loop-i-test.true c.loop-i.invariant.0 c.loop-i.invariant.1 (λ f e h. grind (arith, nat_tests)))
+pub returns-in_default-3 : goal.returns-in_default-3
+returns-in_default-3 c = over_most c.args.most _ _ _ c.loop-i-test.true (λ z. grind (arith, nat_tests, z)) (turn _ _ _ c.loop-i-test.true c.loop-i.invariant.0 c.loop-i.invariant.1 (λ f e h. grind (arith, nat_tests)))
 
 pub loop-i-preserved : goal.loop-i-preserved
 loop-i-preserved c = (λ e. absurd (omega arith), λ _. more _ _ _ c.loop-i-test.true (grind (arith, nat_tests)) (turn _ _ _ c.loop-i-test.true c.loop-i.invariant.0 c.loop-i.invariant.1 (λ f e h. grind (arith, nat_tests))))

@@ -6,7 +6,7 @@ use Rattle.text.specs.Strings.{adds, goes, units, matching, alike}
 use Rattle.text.specs.declared.string.Mode.{Mode}
 use Rattle.text.proofs.Matching.{unit_some, unit_none, match_true, match_false}
 use Rattle.text.proofs.string.compare.Goals as goal
-use Rattle.text.proofs.string.compare.Goals.{in-Some+else-matched-name+else-not-same-unit, in-default}
+use Rattle.text.proofs.string.compare.Goals.{in-Some+else-matched-name+else-not-same_unit, in_default}
 
 name_some : (ns : List ℕ) (j : ℕ) → j < length ns → drop j ns ≡ get_or ns j 0 ∷ drop (j + 1) ns
 name_some ns j h = rw (add-one, drop-cons ns j 0 h) refl
@@ -34,13 +34,13 @@ ended f raw ns m i j h l = rw (drop_all i raw h) (rest_matching f ns j l)
 pub returns-then-matched-name : goal.returns-then-matched-name
 returns-then-matched-name c = sym (c.loop-b.invariant.1 ∙ too_many c.args.fold _ _ c.loop-b.mode c.loop-b.b-index c.loop-b.matched c.in-Some.u c.loop-b-test.true (omega arith) (sym c.step-added.ensures.0 ∙ c.in-Some.is))
 
-pub returns-then-not-same-unit : goal.returns-then-not-same-unit
-returns-then-not-same-unit c = sym (c.loop-b.invariant.1 ∙ other c.args.fold _ _ c.loop-b.mode c.loop-b.b-index c.loop-b.matched c.in-Some.u c.loop-b-test.true (omega arith) (sym c.step-added.ensures.0 ∙ c.in-Some.is) (search rules))
+pub returns-then-not-same_unit : goal.returns-then-not-same_unit
+returns-then-not-same_unit c = sym (c.loop-b.invariant.1 ∙ other c.args.fold _ _ c.loop-b.mode c.loop-b.b-index c.loop-b.matched c.in-Some.u c.loop-b-test.true (omega arith) (sym c.step-added.ensures.0 ∙ c.in-Some.is) (search rules))
 
 pub loop-b-preserved : goal.loop-b-preserved
 loop-b-preserved c = elim c.match-added.branch [
-  | in-Some+else-matched-name+else-not-same-unit w ↦ (omega (arith, w.matched-is), rw (w.matched-is, c.step-added.ensures.1) (c.loop-b.invariant.1 ∙ same c.args.fold _ _ c.loop-b.mode c.loop-b.b-index c.loop-b.matched _ c.loop-b-test.true w.if-matched-name.false (sym c.step-added.ensures.0 ∙ w.in-Some.is) (sym w.same-unit.ensures ∙ w.if-not-same-unit.false)))
-  | in-default w ↦ (omega (arith, w.matched-is), rw (w.matched-is, c.step-added.ensures.1) (c.loop-b.invariant.1 ∙ ap (λ us. matching c.args.fold us (drop c.loop-b.matched c.args.name.now)) (unit_none c.loop-b.mode _ c.loop-b.b-index c.loop-b-test.true (sym c.step-added.ensures.0 ∙ w.in-default.is))))
+  | in-Some+else-matched-name+else-not-same_unit w ↦ (omega (arith, w.matched-is), rw (w.matched-is, c.step-added.ensures.1) (c.loop-b.invariant.1 ∙ same c.args.fold _ _ c.loop-b.mode c.loop-b.b-index c.loop-b.matched _ c.loop-b-test.true w.if-matched-name.false (sym c.step-added.ensures.0 ∙ w.in-Some.is) (sym w.same_unit.ensures ∙ w.if-not-same_unit.false)))
+  | in_default w ↦ (omega (arith, w.matched-is), rw (w.matched-is, c.step-added.ensures.1) (c.loop-b.invariant.1 ∙ ap (λ us. matching c.args.fold us (drop c.loop-b.matched c.args.name.now)) (unit_none c.loop-b.mode _ c.loop-b.b-index c.loop-b-test.true (sym c.step-added.ensures.0 ∙ w.in_default.is))))
 ]
 
 pub returns : goal.returns

@@ -14,17 +14,17 @@ from_start : (t : List ℕ) (r : Reader) → r.at ≡ 0 → r.text.now ≡ t →
 unfolding tape ahead
 from_start t r a e = rw (a, e) refl
 
-pub returns-in-err-check-length : goal.returns-in-err-check-length
-returns-in-err-check-length c =
-    let p = c.in-err-check-length.ensures in
-    let e = broken (λ x. x ≡ outcome c.args.text.now) _ c.from-residual.ensures.1 (ap Err p.1 ∙ sym (long _ p.0)) in
+pub returns-in_err-check_length : goal.returns-in_err-check_length
+returns-in_err-check_length c =
+    let p = c.in_err-check_length.ensures in
+    let e = broken (λ x. x ≡ outcome c.args.text.now) _ c.from_residual.ensures.1 (ap Err p.1 ∙ sym (long _ p.0)) in
     record { exact = e; judged = by_outcome _ _ e; read = λ h x. e ∙ text_read _ h x }
 
-pub returns-in-err-value : goal.returns-in-err-value
-returns-in-err-value c =
+pub returns-in_err-value : goal.returns-in_err-value
+returns-in_err-value c =
     let e =
-    broken (λ x. x ≡ outcome c.args.text.now) _ c.from-residual-in-err-value.ensures.1
-    (sym (short _ c.in-ok-check-length.ensures ∙ ap ending (from_start _ _ c.new-reader.ensures.start c.new-reader.ensures.text) ∙ c.in-err-value.ensures.found []))
+    broken (λ x. x ≡ outcome c.args.text.now) _ c.from_residual-in_err-value.ensures.1
+    (sym (short _ c.in_ok-check_length.ensures ∙ ap ending (from_start _ _ c.new-reader.ensures.start c.new-reader.ensures.text) ∙ c.in_err-value.ensures.found []))
     in
     record { exact = e; judged = by_outcome _ _ e; read = λ h x. e ∙ text_read _ h x }
 
@@ -34,6 +34,6 @@ finished t r v s (Err y) what h a e p q = sym (short t h ∙ ap ending (from_sta
 
 pub returns : goal.returns
 returns c =
-    let v = c.in-ok-value.ensures in
-    let e = finished _ _ _ _ _ v.what c.in-ok-check-length.ensures c.new-reader.ensures.start c.new-reader.ensures.text v.passed c.finish.ensures in
+    let v = c.in_ok-value.ensures in
+    let e = finished _ _ _ _ _ v.what c.in_ok-check_length.ensures c.new-reader.ensures.start c.new-reader.ensures.text v.passed c.finish.ensures in
     record { exact = e; judged = by_outcome _ _ e; read = λ h x. e ∙ text_read _ h x }

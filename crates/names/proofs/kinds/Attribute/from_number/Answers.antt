@@ -4,4 +4,4 @@ use Rattle.names.proofs.kinds.Attribute.from_number.Goals as goal
 
 pub returns : goal.returns
 unfolding attribute_numbered
-returns c = c.at-number.ensures
+returns c = c.at_number.ensures

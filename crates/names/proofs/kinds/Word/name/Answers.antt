@@ -4,4 +4,4 @@ use Rattle.names.proofs.kinds.Word.name.Goals as goal
 
 pub returns : goal.returns
 unfolding letters starts word_name
-returns c = c.name-at.ensures ∙ ap (λ i. get_or word_names i []) c.code.ensures
+returns c = c.name_at.ensures ∙ ap (λ i. get_or word_names i []) c.code.ensures

@@ -10,7 +10,7 @@ returns-then-number-self c =
     let n = c.args.number in
     let low_fits : SFits w32 x.low = search rules in
     let number_fits : SFits w32 n = c.ranges.number in
-    let far : c.abs-diff.result ≡ nat_abs (n -ℤ x.low) = simp to_z-of_z at c.abs-diff.ensures in
+    let far : c.abs_diff.result ≡ nat_abs (n -ℤ x.low) = simp to_z-of_z at c.abs_diff.ensures in
     let above : x.low ≤ℤ n = search rules in
     let below : n ≤ℤ x.high = search rules in
     record {

@@ -19,5 +19,5 @@ returns-in-Some-integer c t h =
 pub returns-in-None-integer : goal.returns-in-None-integer
 returns-in-None-integer c t h = rw c.in-Number.is (number_value c.in-Number.raw.now t _ (rw c.in-Number.is at h) (sym c.in-None-integer.is ∙ c.integer.ensures))
 
-pub returns-in-default : goal.returns-in-default
-returns-in-default c t h = other_value c.args.token t c.in-default.not-String c.in-default.not-Number
+pub returns-in_default : goal.returns-in_default
+returns-in_default c t h = other_value c.args.token t c.in_default.not-String c.in_default.not-Number

@@ -7,6 +7,6 @@ use Rattle.table_scanner.proofs.table.TableScanner.add_attribute.Goals as goal
 pub returns : goal.returns
 returns c =
     let a = c.args in
-    let is : Some (new_attribute c.in-Some.point c.in-Some-value-given.value) ≡ read (calls.Attribute a.source a.format a.attribute a.value) =
-    λ j. within (c.in-Some.ensures j) (λ p. within (c.in-Some-value-given.ensures j) (λ v. Some (new_attribute p v))) in
-    subst (λ call. Fills call (device a.self.now) (device c.bring-attribute.new.self) c.bring-attribute.result) is c.bring-attribute.ensures
+    let is : Some (new_attribute c.in-Some.point c.in-Some-value_given.value) ≡ read (calls.Attribute a.source a.format a.attribute a.value) =
+    λ j. within (c.in-Some.ensures j) (λ p. within (c.in-Some-value_given.ensures j) (λ v. Some (new_attribute p v))) in
+    subst (λ call. Fills call (device a.self.now) (device c.bring_attribute.new.self) c.bring_attribute.result) is c.bring_attribute.ensures

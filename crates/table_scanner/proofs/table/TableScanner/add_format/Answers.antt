@@ -7,6 +7,6 @@ use Rattle.table_scanner.proofs.table.TableScanner.add_format.Goals as goal
 pub returns : goal.returns
 returns c =
     let a = c.args in
-    let is : Some (new_format c.in-Some.source c.in-Some-from-number.format) ≡ read (calls.Format a.source a.format) =
-    λ j. within (c.in-Some.ensures j) (λ s. within (c.in-Some-from-number.ensures j) (λ f. Some (new_format s f))) in
-    subst (λ call. Fills call (device a.self.now) (device c.bring-format.new.self) c.bring-format.result) is c.bring-format.ensures
+    let is : Some (new_format c.in-Some.source c.in-Some-from_number.format) ≡ read (calls.Format a.source a.format) =
+    λ j. within (c.in-Some.ensures j) (λ s. within (c.in-Some-from_number.ensures j) (λ f. Some (new_format s f))) in
+    subst (λ call. Fills call (device a.self.now) (device c.bring_format.new.self) c.bring_format.result) is c.bring_format.ensures

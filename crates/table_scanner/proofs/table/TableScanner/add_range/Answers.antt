@@ -20,4 +20,4 @@ returns c =
     (λ j. Some (new_range p (made.1 j) (made.2 j) (nat_abs (made.3 j))))
     ∙ sym (cond-true (is_range a.low a.high a.step) _ None made.0)
     ∙ ap (λ o. within o (λ q. cond (is_range a.low a.high a.step) (Some (new_range q a.low a.high (nat_abs a.step))) None)) c.in-Some.ensures in
-    subst (λ call. Fills call (device a.self.now) (device c.bring-offer.new.self) c.bring-offer.result) is c.bring-offer.ensures
+    subst (λ call. Fills call (device a.self.now) (device c.bring_offer.new.self) c.bring_offer.result) is c.bring_offer.ensures

@@ -7,6 +7,6 @@ use Rattle.table_scanner.proofs.table.TableScanner.add_word.Goals as goal
 pub returns : goal.returns
 returns c =
     let a = c.args in
-    let is : Some (new_word c.in-Some.point c.in-Some-from-number.word) ≡ read (calls.Word a.source a.format a.attribute a.word) =
-    λ j. within (c.in-Some.ensures j) (λ p. within (c.in-Some-from-number.ensures j) (λ w. Some (new_word p w))) in
-    subst (λ call. Fills call (device a.self.now) (device c.bring-offer.new.self) c.bring-offer.result) is c.bring-offer.ensures
+    let is : Some (new_word c.in-Some.point c.in-Some-from_number.word) ≡ read (calls.Word a.source a.format a.attribute a.word) =
+    λ j. within (c.in-Some.ensures j) (λ p. within (c.in-Some-from_number.ensures j) (λ w. Some (new_word p w))) in
+    subst (λ call. Fills call (device a.self.now) (device c.bring_offer.new.self) c.bring_offer.result) is c.bring_offer.ensures

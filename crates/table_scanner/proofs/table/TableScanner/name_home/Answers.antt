@@ -9,4 +9,4 @@ returns c =
     let a = c.args in
     let is : Some (new_home c.in-Some.source) ≡ read (calls.Home a.source) =
     λ j. within (c.in-Some.ensures j) (λ s. Some (new_home s)) in
-    subst (λ call. Fills call (device a.self.now) (device c.bring-home.new.self) c.bring-home.result) is c.bring-home.ensures
+    subst (λ call. Fills call (device a.self.now) (device c.bring_home.new.self) c.bring_home.result) is c.bring_home.ensures

@@ -5,5 +5,5 @@ use Rattle.table_scanner.proofs.table.TableScanner.new.Goals as goal
 
 pub returns : goal.returns
 returns c =
-    let first = c.push-reserved.ensures.items ∙ ap (λ zs. zs ++ _ ∷ []) c.in-ok-pairs.ensures.items in
-    (λ j. listed (first j) (c.in-ok-settings.ensures.items j) (c.in-ok-offers.ensures.items j) Source.FlatBed) ∙ begun
+    let first = c.push_reserved.ensures.items ∙ ap (λ zs. zs ++ _ ∷ []) c.in_ok-pairs.ensures.items in
+    (λ j. listed (first j) (c.in_ok-settings.ensures.items j) (c.in_ok-offers.ensures.items j) Source.FlatBed) ∙ begun

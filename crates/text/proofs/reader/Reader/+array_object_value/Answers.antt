@@ -12,7 +12,7 @@ use Rattle.text.proofs.Steps.{stay, then_passed, passed_halted, broken, on, on_h
 use Rattle.text.proofs.Extents.{value_end}
 use Rattle.text.proofs.Frames.{same_ending, same_ending_members, same_ending_entries, add_member, add_member_events, add_member_proper, add_entry, add_entry_events, add_entry_proper}
 use Rattle.text.proofs.reader.Reader.+array_object_value.Goals as goal
-use Rattle.text.proofs.reader.Reader.+array_object_value.Goals.{value-in-Object+in-ok-object, value-in-Array+in-ok-array, value-in-default}
+use Rattle.text.proofs.reader.Reader.+array_object_value.Goals.{value-in-Object+in_ok-object-in-Object, value-in-Array+in_ok-array-in-Array, value-in_default}
 
 entry_goes : (f : Bool) (r s : Reader) (b : Bool) → b ≡ true → ReadsEntry f r s (Ok b) → (d : ℕ) → Onward (λ k. entries f d ∷ k) (λ k. value d ∷ entries false d ∷ k) r s
 entry_goes f r s true e p d = p d
@@ -51,45 +51,45 @@ pub array-loop-self-init : goal.array-loop-self-init
 unfolding entry_events ProperEntries
 array-loop-self-init t c = (no_entry, stay, tt)
 
-pub array-returns-in-err-entry : goal.array-returns-in-err-entry
-array-returns-in-err-entry t c = broken (ReadsEntries _ _ _) _ c.from-residual.ensures.1 (passed_halted (same_ending_entries c.loop-self.invariant.0) c.loop-self.invariant.1 (c.in-err-entry.ensures c.args.levels))
+pub array-returns-in_err-entry : goal.array-returns-in_err-entry
+array-returns-in_err-entry t c = broken (ReadsEntries _ _ _) _ c.from_residual.ensures.1 (passed_halted (same_ending_entries c.loop-self.invariant.0) c.loop-self.invariant.1 (c.in_err-entry.ensures c.args.levels))
 
-pub array-returns-in-err-value : goal.array-returns-in-err-value
-array-returns-in-err-value t c = broken (ReadsEntries _ _ _) _ c.from-residual-in-err-value.ensures.1 (passed_halted (same_ending_entries c.loop-self.invariant.0) (then_passed c.loop-self.invariant.1 (entry_goes _ _ _ _ c.if-branch.true c.in-ok-entry.ensures c.args.levels)) (on_halted (λ k. entries false c.args.levels ∷ k) c.in-err-value.ensures))
+pub array-returns-in_err-value : goal.array-returns-in_err-value
+array-returns-in_err-value t c = broken (ReadsEntries _ _ _) _ c.from_residual-in_err-value.ensures.1 (passed_halted (same_ending_entries c.loop-self.invariant.0) (then_passed c.loop-self.invariant.1 (entry_goes _ _ _ _ c.if-branch.true c.in_ok-entry.ensures c.args.levels)) (on_halted (λ k. entries false c.args.levels ∷ k) c.in_err-value.ensures))
 
 pub array-loop-self-smaller : goal.array-loop-self-smaller
-array-loop-self-smaller t c = nearer (entry_goes _ _ _ _ c.if-branch.true c.in-ok-entry.ensures c.args.levels) c.in-ok-value.ensures
+array-loop-self-smaller t c = nearer (entry_goes _ _ _ _ c.if-branch.true c.in_ok-entry.ensures c.args.levels) c.in_ok-value.ensures
 
 pub array-loop-self-preserved : goal.array-loop-self-preserved
-array-loop-self-preserved t c = (_, entry_more c.loop-self.invariant.0 c.in-ok-value.ensures c.loop-self.invariant.1 (entry_goes _ _ _ _ c.if-branch.true c.in-ok-entry.ensures c.args.levels), add_entry_proper c.loop-self.invariant.0 _ c.loop-self.invariant.2 c.in-ok-value.ensures.proper)
+array-loop-self-preserved t c = (_, entry_more c.loop-self.invariant.0 c.in_ok-value.ensures c.loop-self.invariant.1 (entry_goes _ _ _ _ c.if-branch.true c.in_ok-entry.ensures c.args.levels), add_entry_proper c.loop-self.invariant.0 _ c.loop-self.invariant.2 c.in_ok-value.ensures.proper)
 
 pub array-returns : goal.array-returns
 array-returns t c =
-    let o = entries_over _ _ _ _ c.if-branch.false c.in-ok-entry.ensures in
+    let o = entries_over _ _ _ _ c.if-branch.false c.in_ok-entry.ensures in
     record { what = c.loop-self.invariant.0; proper = c.loop-self.invariant.2; last = o.0; to = o.1; passed = then_passed c.loop-self.invariant.1 (o.2 c.args.levels) }
 
 pub object-loop-self-init : goal.object-loop-self-init
 unfolding member_events ProperMembers
 object-loop-self-init t c = (no_member, stay, tt)
 
-pub object-returns-in-err-member : goal.object-returns-in-err-member
-object-returns-in-err-member t c = broken (ReadsMembers _ _ _) _ c.from-residual.ensures.1 (passed_halted (same_ending_members c.loop-self.invariant.0) c.loop-self.invariant.1 (c.in-err-member.ensures c.args.levels))
+pub object-returns-in_err-member : goal.object-returns-in_err-member
+object-returns-in_err-member t c = broken (ReadsMembers _ _ _) _ c.from_residual.ensures.1 (passed_halted (same_ending_members c.loop-self.invariant.0) c.loop-self.invariant.1 (c.in_err-member.ensures c.args.levels))
 
-pub object-returns-in-err-value : goal.object-returns-in-err-value
-object-returns-in-err-value t c =
-    let n = member_goes _ _ _ _ _ c.in-Named.is c.in-ok-member.ensures in
-    broken (ReadsMembers _ _ _) _ c.from-residual-in-err-value.ensures.1 (passed_halted (λ u. same_ending_members c.loop-self.invariant.0 (event name _ u)) (then_passed c.loop-self.invariant.1 (n.passed c.args.levels)) (on_halted (λ k. members false c.args.levels ∷ k) c.in-err-value.ensures))
+pub object-returns-in_err-value : goal.object-returns-in_err-value
+object-returns-in_err-value t c =
+    let n = member_goes _ _ _ _ _ c.in-Named.is c.in_ok-member.ensures in
+    broken (ReadsMembers _ _ _) _ c.from_residual-in_err-value.ensures.1 (passed_halted (λ u. same_ending_members c.loop-self.invariant.0 (event name _ u)) (then_passed c.loop-self.invariant.1 (n.passed c.args.levels)) (on_halted (λ k. members false c.args.levels ∷ k) c.in_err-value.ensures))
 
 pub object-loop-self-smaller : goal.object-loop-self-smaller
-object-loop-self-smaller t c = nearer ((member_goes _ _ _ _ _ c.in-Named.is c.in-ok-member.ensures).passed c.args.levels) c.in-ok-value.ensures
+object-loop-self-smaller t c = nearer ((member_goes _ _ _ _ _ c.in-Named.is c.in_ok-member.ensures).passed c.args.levels) c.in_ok-value.ensures
 
 pub object-loop-self-preserved : goal.object-loop-self-preserved
-object-loop-self-preserved t c = (_, member_more c.loop-self.invariant.0 _ c.in-ok-value.ensures c.loop-self.invariant.1 ((member_goes _ _ _ _ _ c.in-Named.is c.in-ok-member.ensures).passed c.args.levels), add_member_proper c.loop-self.invariant.0 _ _ c.loop-self.invariant.2 c.in-ok-value.ensures.proper)
+object-loop-self-preserved t c = (_, member_more c.loop-self.invariant.0 _ c.in_ok-value.ensures c.loop-self.invariant.1 ((member_goes _ _ _ _ _ c.in-Named.is c.in_ok-member.ensures).passed c.args.levels), add_member_proper c.loop-self.invariant.0 _ _ c.loop-self.invariant.2 c.in_ok-value.ensures.proper)
 
 pub object-returns : goal.object-returns
 object-returns t c =
-    let o = members_over _ _ _ _ _ c.in-default.is c.in-ok-member.ensures in
-    record { what = c.loop-self.invariant.0; proper = c.loop-self.invariant.2; last = c.in-default.field-0; to = o.0; passed = then_passed c.loop-self.invariant.1 (o.1 c.args.levels) }
+    let o = members_over _ _ _ _ _ c.in_default.is c.in_ok-member.ensures in
+    record { what = c.loop-self.invariant.0; proper = c.loop-self.invariant.2; last = c.in_default.field-0; to = o.0; passed = then_passed c.loop-self.invariant.1 (o.1 c.args.levels) }
 
 object_whole : (d : ℕ) (r s u : Reader) (i : ℕ) → TokenRead d r s Object i → MembersRead (d - 1) s u → ValueRead d r u Object i
 unfolding events Proper
@@ -117,7 +117,7 @@ scalar_value d r s Null i n m p = record { from = p.from; moves = p.moves; what 
 
 pub value-returns : goal.value-returns
 value-returns t c = elim c.match-token.branch [
-  | value-in-Object+in-ok-object w ↦ rw w.self-is (object_value _ _ _ _ _ _ w.in-Object.is c.in-ok-token.ensures w.in-ok-object.ensures)
-  | value-in-Array+in-ok-array w ↦ rw w.self-is (array_value _ _ _ _ _ _ w.in-Array.is c.in-ok-token.ensures w.in-ok-array.ensures)
-  | value-in-default w ↦ rw w.self-is (scalar_value _ _ _ _ _ w.in-default.not-Object w.in-default.not-Array c.in-ok-token.ensures)
+  | value-in-Object+in_ok-object-in-Object w ↦ rw w.self-is (object_value _ _ _ _ _ _ w.in-Object.is c.in_ok-token.ensures w.in_ok-object-in-Object.ensures)
+  | value-in-Array+in_ok-array-in-Array w ↦ rw w.self-is (array_value _ _ _ _ _ _ w.in-Array.is c.in_ok-token.ensures w.in_ok-array-in-Array.ensures)
+  | value-in_default w ↦ rw w.self-is (scalar_value _ _ _ _ _ w.in_default.not-Object w.in_default.not-Array c.in_ok-token.ensures)
 ]

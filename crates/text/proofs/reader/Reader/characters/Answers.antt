@@ -9,8 +9,8 @@ pub returns-then-b-eq34 : goal.returns-then-b-eq34
 unfolding step
 returns-then-b-eq34 c = (then c.loop-self.invariant (one c.loop-self-test.true refl refl (λ k. grind (arith, nat_tests))), refl, c.loop-self.invariant.forth)
 
-pub returns-in-err-character : goal.returns-in-err-character
-returns-in-err-character c = broken (ReadsTo _ _ _ _) _ c.from-residual.ensures.1 (then_halted c.loop-self.invariant c.in-err-character.ensures.reads)
+pub returns-in_err-character : goal.returns-in_err-character
+returns-in_err-character c = broken (ReadsTo _ _ _ _) _ c.from_residual.ensures.1 (then_halted c.loop-self.invariant c.in_err-character.ensures.reads)
 
 pub returns : goal.returns
 unfolding over

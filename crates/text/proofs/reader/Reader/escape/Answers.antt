@@ -8,26 +8,26 @@ pub returns-then-self : goal.returns-then-self
 unfolding over
 returns-then-self c = bad_end (omega arith) c.forbidden.ensures (λ k. refl)
 
-pub returns-in-err-hex-digit : goal.returns-in-err-hex-digit
+pub returns-in_err-hex_digit-in-117 : goal.returns-in_err-hex_digit-in-117
 unfolding step
-returns-in-err-hex-digit c = broke _ _ c.from-residual.ensures.1 (one (omega arith) refl refl (λ k. grind (arith, nat_tests))) (c.in-err-hex-digit.ensures 3)
+returns-in_err-hex_digit-in-117 c = broke _ _ c.from_residual.ensures.1 (one (omega arith) refl refl (λ k. grind (arith, nat_tests))) (c.in_err-hex_digit-in-117.ensures 3)
 
-pub returns-in-err-hex-digit-2 : goal.returns-in-err-hex-digit-2
+pub returns-in_err-hex_digit-in-117-2 : goal.returns-in_err-hex_digit-in-117-2
 unfolding step
-returns-in-err-hex-digit-2 c = broke _ _ c.from-residual-in-err-hex-digit-2.ensures.1 (then (one (omega arith) refl refl (λ k. grind (arith, nat_tests))) (c.in-ok-hex-digit.ensures 3)) (c.in-err-hex-digit-2.ensures 2)
+returns-in_err-hex_digit-in-117-2 c = broke _ _ c.from_residual-in_err-hex_digit-in-117-2.ensures.1 (then (one (omega arith) refl refl (λ k. grind (arith, nat_tests))) (c.in_ok-hex_digit-in-117.ensures 3)) (c.in_err-hex_digit-in-117-2.ensures 2)
 
-pub returns-in-err-hex-digit-3 : goal.returns-in-err-hex-digit-3
+pub returns-in_err-hex_digit-in-117-3 : goal.returns-in_err-hex_digit-in-117-3
 unfolding step
-returns-in-err-hex-digit-3 c = broke _ _ c.from-residual-in-err-hex-digit-3.ensures.1 (then (one (omega arith) refl refl (λ k. grind (arith, nat_tests))) (then (c.in-ok-hex-digit.ensures 3) (c.in-ok-hex-digit-2.ensures 2))) (c.in-err-hex-digit-3.ensures 1)
+returns-in_err-hex_digit-in-117-3 c = broke _ _ c.from_residual-in_err-hex_digit-in-117-3.ensures.1 (then (one (omega arith) refl refl (λ k. grind (arith, nat_tests))) (then (c.in_ok-hex_digit-in-117.ensures 3) (c.in_ok-hex_digit-in-117-2.ensures 2))) (c.in_err-hex_digit-in-117-3.ensures 1)
 
 pub returns-in-34 : goal.returns-in-34
 unfolding step
 returns-in-34 c = one (omega arith) refl refl (λ k. grind (arith, nat_tests))
 
-pub returns-in-ok-hex-digit-3 : goal.returns-in-ok-hex-digit-3
+pub returns-in_ok-hex_digit-in-117-3 : goal.returns-in_ok-hex_digit-in-117-3
 unfolding step
-returns-in-ok-hex-digit-3 c = then_reads _ _ _ (then (one (omega arith) refl refl (λ k. grind (arith, nat_tests))) (then (c.in-ok-hex-digit.ensures 3) (then (c.in-ok-hex-digit-2.ensures 2) (c.in-ok-hex-digit-3.ensures 1)))) (c.hex-digit-in-117-3.ensures 0)
+returns-in_ok-hex_digit-in-117-3 c = then_reads _ _ _ (then (one (omega arith) refl refl (λ k. grind (arith, nat_tests))) (then (c.in_ok-hex_digit-in-117.ensures 3) (then (c.in_ok-hex_digit-in-117-2.ensures 2) (c.in_ok-hex_digit-in-117-3.ensures 1)))) (c.hex_digit-in-117-3.ensures 0)
 
-pub returns-in-default : goal.returns-in-default
+pub returns-in_default : goal.returns-in_default
 unfolding step
-returns-in-default c = bad_here (omega arith) (search rules) (λ k. grind (arith, nat_tests))
+returns-in_default c = bad_here (omega arith) (search rules) (λ k. grind (arith, nat_tests))

@@ -7,7 +7,7 @@ use Rattle.text.proofs.reader.Reader.fraction.Goals.{else-self-via-then-self+els
 
 pub returns-then-self-eq46 : goal.returns-then-self-eq46
 unfolding step
-returns-then-self-eq46 c = then_reads _ _ _ (one (omega arith) refl refl (λ k. grind (arith, nat_tests))) (c.some-digits.ensures fraction)
+returns-then-self-eq46 c = then_reads _ _ _ (one (omega arith) refl refl (λ k. grind (arith, nat_tests))) (c.some_digits.ensures fraction)
 
 pub returns : goal.returns
 unfolding step over

@@ -12,6 +12,6 @@ pub returns-in-48-to-57 : goal.returns-in-48-to-57
 unfolding step
 returns-in-48-to-57 c n = one (omega arith) refl refl (λ k. grind (arith, nat_tests))
 
-pub returns-in-default : goal.returns-in-default
+pub returns-in_default : goal.returns-in_default
 unfolding step
-returns-in-default c n = bad_here (omega arith) (search rules) (λ k. grind (arith, nat_tests))
+returns-in_default c n = bad_here (omega arith) (search rules) (λ k. grind (arith, nat_tests))

@@ -1,11 +1,11 @@
 use Rattle.text.proofs.Steps.{stay, then, then_reads, broke}
 use Rattle.text.proofs.reader.Reader.magnitude.Goals as goal
 
-pub returns-in-err-whole-part : goal.returns-in-err-whole-part
-returns-in-err-whole-part c = broke _ _ c.from-residual.ensures.1 stay c.in-err-whole-part.ensures
+pub returns-in_err-whole_part : goal.returns-in_err-whole_part
+returns-in_err-whole_part c = broke _ _ c.from_residual.ensures.1 stay c.in_err-whole_part.ensures
 
-pub returns-in-err-fraction : goal.returns-in-err-fraction
-returns-in-err-fraction c = broke _ _ c.from-residual-in-err-fraction.ensures.1 c.in-ok-whole-part.ensures c.in-err-fraction.ensures
+pub returns-in_err-fraction : goal.returns-in_err-fraction
+returns-in_err-fraction c = broke _ _ c.from_residual-in_err-fraction.ensures.1 c.in_ok-whole_part.ensures c.in_err-fraction.ensures
 
 pub returns : goal.returns
-returns c = then_reads _ _ _ (then c.in-ok-whole-part.ensures c.in-ok-fraction.ensures) c.exponent.ensures
+returns c = then_reads _ _ _ (then c.in_ok-whole_part.ensures c.in_ok-fraction.ensures) c.exponent.ensures

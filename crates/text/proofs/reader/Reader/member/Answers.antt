@@ -41,17 +41,17 @@ then_name f r s u x i p q = record {
   passed = λ d. then_passed (p d) (q.passed d);
 }
 
-pub returns-in-err-name : goal.returns-in-err-name
-returns-in-err-name c = broken (ReadsMember _ _ _) _ c.from-residual.ensures.1 (λ d. then_halted (first_name c.args.first _ _ c.if-first.true (omega arith) (c.blanks.ensures.stops (omega arith)) (search rules) (λ e. c.blanks.ensures.runs _ (skip_members c.args.first e)) d) (c.in-err-name.ensures d))
+pub returns-in_err-name : goal.returns-in_err-name
+returns-in_err-name c = broken (ReadsMember _ _ _) _ c.from_residual.ensures.1 (λ d. then_halted (first_name c.args.first _ _ c.if-first.true (omega arith) (c.blanks.ensures.stops (omega arith)) (search rules) (λ e. c.blanks.ensures.runs _ (skip_members c.args.first e)) d) (c.in_err-name.ensures d))
 
 pub returns-then-first : goal.returns-then-first
-returns-then-first c = then_name c.args.first _ _ _ _ _ (first_name c.args.first _ _ c.if-first.true (omega arith) (c.blanks.ensures.stops (omega arith)) (search rules) (λ e. c.blanks.ensures.runs _ (skip_members c.args.first e))) c.in-ok-name.ensures
+returns-then-first c = then_name c.args.first _ _ _ _ _ (first_name c.args.first _ _ c.if-first.true (omega arith) (c.blanks.ensures.stops (omega arith)) (search rules) (λ e. c.blanks.ensures.runs _ (skip_members c.args.first e))) c.in_ok-name.ensures
 
-pub returns-in-err-comma : goal.returns-in-err-comma
-returns-in-err-comma c = broken (ReadsMember _ _ _) _ c.from-residual-in-err-comma.ensures.1 (λ d. then_halted (later_name c.args.first _ _ c.if-first.false (λ e. c.blanks.ensures.runs _ (skip_members c.args.first e)) d) (c.in-err-comma.ensures d))
+pub returns-in_err-comma : goal.returns-in_err-comma
+returns-in_err-comma c = broken (ReadsMember _ _ _) _ c.from_residual-in_err-comma.ensures.1 (λ d. then_halted (later_name c.args.first _ _ c.if-first.false (λ e. c.blanks.ensures.runs _ (skip_members c.args.first e)) d) (c.in_err-comma.ensures d))
 
-pub returns-in-err-name-2 : goal.returns-in-err-name-2
-returns-in-err-name-2 c = broken (ReadsMember _ _ _) _ c.from-residual-in-err-name-2.ensures.1 (λ d. then_halted (then (later_name c.args.first _ _ c.if-first.false (λ e. c.blanks.ensures.runs _ (skip_members c.args.first e)) d) (c.in-ok-comma.ensures d)) (c.in-err-name-2.ensures d))
+pub returns-in_err-name-2 : goal.returns-in_err-name-2
+returns-in_err-name-2 c = broken (ReadsMember _ _ _) _ c.from_residual-in_err-name-2.ensures.1 (λ d. then_halted (then (later_name c.args.first _ _ c.if-first.false (λ e. c.blanks.ensures.runs _ (skip_members c.args.first e)) d) (c.in_ok-comma.ensures d)) (c.in_err-name-2.ensures d))
 
 pub returns : goal.returns
-returns c = then_name c.args.first _ _ _ _ _ (λ d. then (later_name c.args.first _ _ c.if-first.false (λ e. c.blanks.ensures.runs _ (skip_members c.args.first e)) d) (c.in-ok-comma.ensures d)) c.in-ok-name-2.ensures
+returns c = then_name c.args.first _ _ _ _ _ (λ d. then (later_name c.args.first _ _ c.if-first.false (λ e. c.blanks.ensures.runs _ (skip_members c.args.first e)) d) (c.in_ok-comma.ensures d)) c.in_ok-name-2.ensures

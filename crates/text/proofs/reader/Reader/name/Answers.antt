@@ -17,8 +17,8 @@ member_string : (d : ℕ) (k : List Frame) → step (member d ∷ k) 34 ≡ says
 unfolding step
 member_string d k = refl
 
-pub returns-in-err-value : goal.returns-in-err-value
-returns-in-err-value c = broken (ReadsName _ _ _) _ c.from-residual.ensures.1 (λ d. then_halted (c.blanks.ensures.runs _ (skip_member d)) (c.in-err-value.ensures name (λ k. member d ∷ k) (λ k. colon d ∷ k) (member_string d)))
+pub returns-in_err-value : goal.returns-in_err-value
+returns-in_err-value c = broken (ReadsName _ _ _) _ c.from_residual.ensures.1 (λ d. then_halted (c.blanks.ensures.runs _ (skip_member d)) (c.in_err-value.ensures name (λ k. member d ∷ k) (λ k. colon d ∷ k) (member_string d)))
 
 -- up to the colon
 to_colon : (r s u v : Reader) (x : List ℕ) (d : ℕ) → Onward (λ k. member d ∷ k) (λ k. member d ∷ k) r s → StringRead s u x → Onward (λ k. colon d ∷ k) (λ k. colon d ∷ k) u v → Passed (λ k. member d ∷ k) (λ k. colon d ∷ k) (event name s.at) r v
@@ -27,7 +27,7 @@ to_colon r s u v x d p q w = then_passed p (then_passed (q.passed name (λ k. me
 pub returns-then-self-2 : goal.returns-then-self-2
 unfolding step over
 returns-then-self-2 c d =
-    passed_halted (λ _. refl) (to_colon _ _ _ _ _ d (c.blanks.ensures.runs _ (skip_member d)) c.in-ok-value.ensures (c.blanks-2.ensures.runs _ (skip_colon d)))
+    passed_halted (λ _. refl) (to_colon _ _ _ _ _ d (c.blanks.ensures.runs _ (skip_member d)) c.in_ok-value.ensures (c.blanks-2.ensures.runs _ (skip_colon d)))
     (elim c.then-self-2.branch [ then-self-2-via-then-self-2 w ↦ bad_end (omega arith) c.forbidden-then-self-2.ensures (λ k. refl) | then-self-2-via-else-self-2+then-self-ne58 w ↦ bad_here (omega arith) c.forbidden-then-self-2.ensures (λ k. let v = c.blanks-2.ensures.stops (omega arith) in grind (arith, nat_tests)) ])
 
 name_read : (r s u v : Reader) (x : List ℕ) → s.text ≡ r.text → r.at ≤ s.at → StringRead s u x → u.at < v.at → ((d : ℕ) → Passed (λ k. member d ∷ k) (λ k. value d ∷ members false d ∷ k) (event name s.at) r v) → NameRead (λ d k. member d ∷ k) r v x s.at
@@ -43,5 +43,5 @@ unfolding step
 returns c =
     let p = c.blanks.ensures.runs _ (skip_member 0) in
     let q = c.blanks-2.ensures.runs _ (skip_colon 0) in
-    name_read _ _ _ _ _ p.same p.forth c.in-ok-value.ensures (omega (arith, q.forth))
-    (λ d. then_passed (to_colon _ _ _ _ _ d (c.blanks.ensures.runs _ (skip_member d)) c.in-ok-value.ensures (c.blanks-2.ensures.runs _ (skip_colon d))) (one (omega arith) refl refl (λ k. let v = c.blanks-2.ensures.stops (omega arith) in grind (arith, nat_tests))))
+    name_read _ _ _ _ _ p.same p.forth c.in_ok-value.ensures (omega (arith, q.forth))
+    (λ d. then_passed (to_colon _ _ _ _ _ d (c.blanks.ensures.runs _ (skip_member d)) c.in_ok-value.ensures (c.blanks-2.ensures.runs _ (skip_colon d))) (one (omega arith) refl refl (λ k. let v = c.blanks-2.ensures.stops (omega arith) in grind (arith, nat_tests))))

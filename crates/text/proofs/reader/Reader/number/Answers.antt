@@ -24,17 +24,17 @@ number_read r s h b p =
       passed = p;
     }
 
-pub returns-in-err-magnitude : goal.returns-in-err-magnitude
-returns-in-err-magnitude c = broken (ReadsNumber _ _) _ c.from-residual.ensures.1 (λ d. passed_halted (λ _. refl) (c.minus.ensures d) c.in-err-magnitude.ensures)
+pub returns-in_err-magnitude : goal.returns-in_err-magnitude
+returns-in_err-magnitude c = broken (ReadsNumber _ _) _ c.from_residual.ensures.1 (λ d. passed_halted (λ _. refl) (c.minus.ensures d) c.in_err-magnitude.ensures)
 
 forth : {f g h : Stack} {a : Tape → Tape} {r s u : Reader} → Passed f g a r s → Onward g h s u → r.at ≤ u.at
 forth p q = omega (arith, p.forth, q.forth)
 
-pub slice-bounds-result-count : goal.slice-bounds-result-count
-slice-bounds-result-count c = forth (c.minus.ensures 0) c.in-ok-magnitude.ensures
+pub slice_bounds-result-count : goal.slice_bounds-result-count
+slice_bounds-result-count c = forth (c.minus.ensures 0) c.in_ok-magnitude.ensures
 
-pub slice-bounds-result-start : goal.slice-bounds-result-start
-slice-bounds-result-start c = forth (c.minus.ensures 0) c.in-ok-magnitude.ensures
+pub slice_bounds-result-start : goal.slice_bounds-result-start
+slice_bounds-result-start c = forth (c.minus.ensures 0) c.in_ok-magnitude.ensures
 
 pub returns : goal.returns
-returns c = number_read _ _ c.requires.inside c.requires.is (λ d. then_passed (c.minus.ensures d) c.in-ok-magnitude.ensures)
+returns c = number_read _ _ c.requires.inside c.requires.is (λ d. then_passed (c.minus.ensures d) c.in_ok-magnitude.ensures)

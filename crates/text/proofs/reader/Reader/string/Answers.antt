@@ -29,14 +29,14 @@ module _ (r u s : Reader) (q : ℕ) (inside : Inside r) (quote : here r ≡ 34) 
   string_halted : {e : TextFault} → Halted (λ k. chars ∷ k) u s e → (n : Kind) (f g : Stack) → ((k : List Frame) → step (f k) 34 ≡ says n (chars ∷ g k)) → Halted f r s e
   string_halted p n f g e = passed_halted (λ _. refl) (token n _ refl inside same next (λ k. rw quote (e k))) (on_halted g p)
 
-pub returns-in-err-quote : goal.returns-in-err-quote
-returns-in-err-quote c = broken (ReadsString _ _) _ c.from-residual.ensures.1 (string_halted _ _ _ 0 c.requires.inside c.requires.is refl refl c.in-err-quote.ensures)
+pub returns-in_err-quote : goal.returns-in_err-quote
+returns-in_err-quote c = broken (ReadsString _ _) _ c.from_residual.ensures.1 (string_halted _ _ _ 0 c.requires.inside c.requires.is refl refl c.in_err-quote.ensures)
 
-pub slice-bounds-result-count : goal.slice-bounds-result-count
-slice-bounds-result-count c = c.in-ok-quote.ensures.2
+pub slice_bounds-result-count : goal.slice_bounds-result-count
+slice_bounds-result-count c = c.in_ok-quote.ensures.2
 
-pub slice-bounds-result-start : goal.slice-bounds-result-start
-slice-bounds-result-start c = c.in-ok-quote.ensures.2
+pub slice_bounds-result-start : goal.slice_bounds-result-start
+slice_bounds-result-start c = c.in_ok-quote.ensures.2
 
 pub returns : goal.returns
-returns c = let p = c.in-ok-quote.ensures in string_read _ _ _ _ c.requires.inside c.requires.is refl refl p.0 p.1 p.2
+returns c = let p = c.in_ok-quote.ensures in string_read _ _ _ _ c.requires.inside c.requires.is refl refl p.0 p.1 p.2

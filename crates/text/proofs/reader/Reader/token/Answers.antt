@@ -20,8 +20,8 @@ pub returns-then-self : goal.returns-then-self
 unfolding over
 returns-then-self c = then_halted (c.blanks.ensures.runs _ (skip_value c.args.levels)) (bad_end (omega arith) c.forbidden.ensures (λ k. refl))
 
-pub returns-in-err-value : goal.returns-in-err-value
-returns-in-err-value c = broken (ReadsToken _ _ _) _ c.from-residual.ensures.1 (then_halted (c.blanks.ensures.runs _ (skip_value c.args.levels)) c.in-err-value.ensures)
+pub returns-in_err-value : goal.returns-in_err-value
+returns-in_err-value c = broken (ReadsToken _ _ _) _ c.from_residual.ensures.1 (then_halted (c.blanks.ensures.runs _ (skip_value c.args.levels)) c.in_err-value.ensures)
 
 pub returns : goal.returns
-returns c = token_then _ _ _ _ _ (c.blanks.ensures.runs _ (skip_value c.args.levels)) c.in-ok-value.ensures
+returns c = token_then _ _ _ _ _ (c.blanks.ensures.runs _ (skip_value c.args.levels)) c.in_ok-value.ensures

@@ -7,7 +7,7 @@ use Rattle.text.specs.Machine.{Kind, Frame, value, chars, says, event, letters, 
 use Rattle.text.specs.Ahead.{here, Inside, Passed, StringRead, NumberRead, kind_of, after_token, length_of, Holds, Opened, TokenRead, ReadsTokenHere}
 use Rattle.text.proofs.Steps.{token, announced, bad_here, then_passed, passed_halted, broken}
 use Rattle.text.proofs.reader.Reader.token_here.Goals as goal
-use Rattle.text.proofs.reader.Reader.token_here.Goals.{in-default-via-then-this-lt48, in-default-via-else-this-lt48+else-this-lt58}
+use Rattle.text.proofs.reader.Reader.token_here.Goals.{in_default-via-then-this-lt48, in_default-via-else-this-lt48+else-this-lt58}
 
 token_read : (d : ℕ) (r s : Reader) (x : Token) → Opened x d → Holds (drop r.at r.text.now) x → s.at ≡ r.at + length_of (drop r.at r.text.now) x → r.at < s.at → Passed (λ k. value d ∷ k) (after_token x d) (event (kind_of x) r.at) r s → TokenRead d r s x r.at
 token_read d r s x o h e m p = record { from = omega arith; opened = o; moves = m; token = record { holds = h; to = e }; passed = p }
@@ -27,42 +27,42 @@ string_token d r s x p = token_read d r s (String x) tt p.holds p.to p.moves (p.
 number_token : (d : ℕ) (r s : Reader) (x : Bor (List ℕ)) → NumberRead r s x.now → TokenRead d r s (Number x) r.at
 number_token d r s x p = token_read d r s (Number x) tt p.holds p.to p.moves (p.passed d)
 
-pub returns-in-err-string : goal.returns-in-err-string
-returns-in-err-string c = broken (ReadsTokenHere _ _ _) _ c.from-residual-in-err-string.ensures.1 (c.in-err-string.ensures string (λ k. value c.args.levels ∷ k) (λ k. k) (value_string c.args.levels))
+pub returns-in_err-string-in-34 : goal.returns-in_err-string-in-34
+returns-in_err-string-in-34 c = broken (ReadsTokenHere _ _ _) _ c.from_residual-in_err-string-in-34.ensures.1 (c.in_err-string-in-34.ensures string (λ k. value c.args.levels ∷ k) (λ k. k) (value_string c.args.levels))
 
-pub returns-in-ok-string : goal.returns-in-ok-string
-returns-in-ok-string c = string_token _ _ _ _ c.in-ok-string.ensures
+pub returns-in_ok-string-in-34 : goal.returns-in_ok-string-in-34
+returns-in_ok-string-in-34 c = string_token _ _ _ _ c.in_ok-string-in-34.ensures
 
-pub returns-in-err-number : goal.returns-in-err-number
-returns-in-err-number c = broken (ReadsTokenHere _ _ _) _ c.from-residual-in-err-number.ensures.1 (c.in-err-number.ensures c.args.levels)
+pub returns-in_err-number-in-45 : goal.returns-in_err-number-in-45
+returns-in_err-number-in-45 c = broken (ReadsTokenHere _ _ _) _ c.from_residual-in_err-number-in-45.ensures.1 (c.in_err-number-in-45.ensures c.args.levels)
 
-pub returns-in-ok-number : goal.returns-in-ok-number
-returns-in-ok-number c = number_token _ _ _ _ c.in-ok-number.ensures
+pub returns-in_ok-number-in-45 : goal.returns-in_ok-number-in-45
+returns-in_ok-number-in-45 c = number_token _ _ _ _ c.in_ok-number-in-45.ensures
 
-pub returns-in-err-letters : goal.returns-in-err-letters
+pub returns-in_err-letters-in-t : goal.returns-in_err-letters-in-t
 unfolding step
-returns-in-err-letters c = broken (ReadsTokenHere _ _ _) _ c.from-residual-in-err-letters.ensures.1 (passed_halted (λ _. refl) (to_literal _ _ literal_true 116 (114 ∷ 117 ∷ 101 ∷ []) c.requires.inside (search rules) (λ k. refl)) c.in-err-letters.ensures)
+returns-in_err-letters-in-t c = broken (ReadsTokenHere _ _ _) _ c.from_residual-in_err-letters-in-t.ensures.1 (passed_halted (λ _. refl) (to_literal _ _ literal_true 116 (114 ∷ 117 ∷ 101 ∷ []) c.requires.inside (search rules) (λ k. refl)) c.in_err-letters-in-t.ensures)
 
-pub returns-in-ok-letters : goal.returns-in-ok-letters
+pub returns-in_ok-letters-in-t : goal.returns-in_ok-letters-in-t
 unfolding step
-returns-in-ok-letters c = let p = c.in-ok-letters.ensures in token_read _ _ _ True tt tt p.1 (omega (arith, p.1)) (then_passed (to_literal _ _ literal_true 116 (114 ∷ 117 ∷ 101 ∷ []) c.requires.inside (search rules) (λ k. refl)) p.0)
+returns-in_ok-letters-in-t c = let p = c.in_ok-letters-in-t.ensures in token_read _ _ _ True tt tt p.1 (omega (arith, p.1)) (then_passed (to_literal _ _ literal_true 116 (114 ∷ 117 ∷ 101 ∷ []) c.requires.inside (search rules) (λ k. refl)) p.0)
 
-pub returns-in-err-letters-2 : goal.returns-in-err-letters-2
+pub returns-in_err-letters-in-f : goal.returns-in_err-letters-in-f
 unfolding step
-returns-in-err-letters-2 c = broken (ReadsTokenHere _ _ _) _ c.from-residual-in-err-letters-2.ensures.1 (passed_halted (λ _. refl) (to_literal _ _ literal_false 102 (97 ∷ 108 ∷ 115 ∷ 101 ∷ []) c.requires.inside (search rules) (λ k. refl)) c.in-err-letters-2.ensures)
+returns-in_err-letters-in-f c = broken (ReadsTokenHere _ _ _) _ c.from_residual-in_err-letters-in-f.ensures.1 (passed_halted (λ _. refl) (to_literal _ _ literal_false 102 (97 ∷ 108 ∷ 115 ∷ 101 ∷ []) c.requires.inside (search rules) (λ k. refl)) c.in_err-letters-in-f.ensures)
 
-pub returns-in-ok-letters-2 : goal.returns-in-ok-letters-2
+pub returns-in_ok-letters-in-f : goal.returns-in_ok-letters-in-f
 unfolding step
-returns-in-ok-letters-2 c = let p = c.in-ok-letters-2.ensures in token_read _ _ _ False tt tt p.1 (omega (arith, p.1)) (then_passed (to_literal _ _ literal_false 102 (97 ∷ 108 ∷ 115 ∷ 101 ∷ []) c.requires.inside (search rules) (λ k. refl)) p.0)
+returns-in_ok-letters-in-f c = let p = c.in_ok-letters-in-f.ensures in token_read _ _ _ False tt tt p.1 (omega (arith, p.1)) (then_passed (to_literal _ _ literal_false 102 (97 ∷ 108 ∷ 115 ∷ 101 ∷ []) c.requires.inside (search rules) (λ k. refl)) p.0)
 
-pub returns-in-err-letters-3 : goal.returns-in-err-letters-3
+pub returns-in_err-letters-in-n : goal.returns-in_err-letters-in-n
 unfolding step
-returns-in-err-letters-3 c = broken (ReadsTokenHere _ _ _) _ c.from-residual-in-err-letters-3.ensures.1 (passed_halted (λ _. refl) (to_literal _ _ literal_null 110 (117 ∷ 108 ∷ 108 ∷ []) c.requires.inside (search rules) (λ k. refl)) c.in-err-letters-3.ensures)
+returns-in_err-letters-in-n c = broken (ReadsTokenHere _ _ _) _ c.from_residual-in_err-letters-in-n.ensures.1 (passed_halted (λ _. refl) (to_literal _ _ literal_null 110 (117 ∷ 108 ∷ 108 ∷ []) c.requires.inside (search rules) (λ k. refl)) c.in_err-letters-in-n.ensures)
 
-pub returns-in-ok-letters-3 : goal.returns-in-ok-letters-3
+pub returns-in_ok-letters-in-n : goal.returns-in_ok-letters-in-n
 unfolding step
-returns-in-ok-letters-3 c = let p = c.in-ok-letters-3.ensures in token_read _ _ _ Null tt tt p.1 (omega (arith, p.1)) (then_passed (to_literal _ _ literal_null 110 (117 ∷ 108 ∷ 108 ∷ []) c.requires.inside (search rules) (λ k. refl)) p.0)
+returns-in_ok-letters-in-n c = let p = c.in_ok-letters-in-n.ensures in token_read _ _ _ Null tt tt p.1 (omega (arith, p.1)) (then_passed (to_literal _ _ literal_null 110 (117 ∷ 108 ∷ 108 ∷ []) c.requires.inside (search rules) (λ k. refl)) p.0)
 
-pub returns-in-default : goal.returns-in-default
+pub returns-in_default : goal.returns-in_default
 unfolding step
-returns-in-default c = let w = c.requires.is in bad_here c.requires.inside (search rules) (λ k. elim c.in-default.branch [ in-default-via-then-this-lt48 v ↦ grind (arith, nat_tests) | in-default-via-else-this-lt48+else-this-lt58 v ↦ grind (arith, nat_tests) ])
+returns-in_default c = let w = c.requires.is in bad_here c.requires.inside (search rules) (λ k. elim c.in_default.branch [ in_default-via-then-this-lt48 v ↦ grind (arith, nat_tests) | in_default-via-else-this-lt48+else-this-lt58 v ↦ grind (arith, nat_tests) ])

@@ -16,6 +16,6 @@ pub returns-in-49-to-57 : goal.returns-in-49-to-57
 unfolding step
 returns-in-49-to-57 c = then (one (omega arith) refl refl (λ k. grind (arith, nat_tests))) (then (c.digits.ensures.runs whole) (digits_over whole c.digits.ensures.stops))
 
-pub returns-in-default : goal.returns-in-default
+pub returns-in_default : goal.returns-in_default
 unfolding step
-returns-in-default c = bad_here (omega arith) (search rules) (λ k. grind (arith, nat_tests))
+returns-in_default c = bad_here (omega arith) (search rules) (λ k. grind (arith, nat_tests))

@@ -6,11 +6,11 @@ use Rattle.table_scanner.specs.Entries.{of_source, is_pair}
 use Rattle.table_scanner.specs.Moves.{any_some, any_none, on_sources, on_formats, on_homes, on_switches}
 use Rattle.table_scanner.proofs.table.meaning.TableScannerScanner.enable.Goals as goal
 
-pub invariant-of-self : goal.invariant-of-self
-invariant-of-self c =
+pub invariant_of-self : goal.invariant_of-self
+invariant_of-self c =
     let x = c.args.self.now in
     let kept : any_of (of_source x.home) (set (vec_items x.pairs) c.in-Some.i (record { source = c.args.source; format = c.args.format; enabled = true })) ≡ true =
-    on_sources (vec_items x.pairs) _ c.in-Some.i c.args.source c.args.format c.as-slice.ensures.value c.in-Some.ensures x.home ∙ x.homed in
+    on_sources (vec_items x.pairs) _ c.in-Some.i c.args.source c.args.format c.as_slice.ensures.value c.in-Some.ensures x.home ∙ x.homed in
     search rules
 
 pub returns-in-Some : goal.returns-in-Some
@@ -19,7 +19,7 @@ returns-in-Some c =
     let xs = vec_items x.pairs in
     let s = c.args.source in
     let f = c.args.format in
-    let e = c.as-slice.ensures.value in
+    let e = c.as_slice.ensures.value in
     let h = c.in-Some.ensures in
     record {
       same = λ j. record {
@@ -36,5 +36,5 @@ returns-in-Some c =
 
 pub returns-in-None : goal.returns-in-None
 returns-in-None c =
-    let none = any_none (is_pair c.args.source c.args.format) (vec_items c.args.self.now.pairs) _ c.as-slice.ensures.value c.in-None.ensures in
+    let none = any_none (is_pair c.args.source c.args.format) (vec_items c.args.self.now.pairs) _ c.as_slice.ensures.value c.in-None.ensures in
     record { same = refl; answer = none; after = record { enabled = λ a g. refl; current = λ p. refl } }

@@ -6,8 +6,8 @@ use Rattle.table_scanner.proofs.table.meaning.TableScannerScanner.home_format.Go
 
 pub returns-in-Some : goal.returns-in-Some
 returns-in-Some c =
-    ap (λ o. unwrap_or o PixelFormat.Gray8) (part_some (of_source c.args.source) (λ x. x.format) (vec_items c.args.self.now.pairs) _ c.in-Some.i c.index.result.now c.as-slice.ensures.value c.in-Some.ensures c.index.ensures)
+    ap (λ o. unwrap_or o PixelFormat.Gray8) (part_some (of_source c.args.source) (λ x. x.format) (vec_items c.args.self.now.pairs) _ c.in-Some.i c.index.result.now c.as_slice.ensures.value c.in-Some.ensures c.index.ensures)
 
 pub returns-in-None : goal.returns-in-None
 returns-in-None c =
-    ap (λ o. unwrap_or o PixelFormat.Gray8) (part_none (of_source c.args.source) (λ x. x.format) (vec_items c.args.self.now.pairs) _ c.as-slice.ensures.value c.in-None.ensures)
+    ap (λ o. unwrap_or o PixelFormat.Gray8) (part_none (of_source c.args.source) (λ x. x.format) (vec_items c.args.self.now.pairs) _ c.as_slice.ensures.value c.in-None.ensures)

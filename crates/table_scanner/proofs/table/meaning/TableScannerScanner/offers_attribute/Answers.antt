@@ -6,4 +6,4 @@ use Rattle.table_scanner.proofs.table.meaning.TableScannerScanner.offers_attribu
 
 pub returns : goal.returns
 returns c =
-    c.any.ensures ∙ ap (any_of (at_point c.args.point)) c.as-slice.ensures.value ∙ sym (found_any (at_point c.args.point) (λ x. x.initial) (vec_items c.args.self.now.settings))
+    c.any.ensures ∙ ap (any_of (at_point c.args.point)) c.as_slice.ensures.value ∙ sym (found_any (at_point c.args.point) (λ x. x.initial) (vec_items c.args.self.now.settings))

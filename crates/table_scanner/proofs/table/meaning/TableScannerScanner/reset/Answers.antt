@@ -9,14 +9,14 @@ use Rattle.table_scanner.specs.Lookups.{any_map, found_map}
 use Rattle.table_scanner.specs.Moves.{refilled_map, off_switches}
 use Rattle.table_scanner.proofs.table.meaning.TableScannerScanner.reset.Goals as goal
 
-pub invariant-of-self : goal.invariant-of-self
-invariant-of-self c =
+pub invariant_of-self : goal.invariant_of-self
+invariant_of-self c =
     let x = c.args.self.now in
     let xs = vec_items x.pairs in
     let ys = vec_items x.settings in
-    let pairs = refilled_map off x.pairs c.switch-off.new.pairs (c.switch-off.ensures ∙ ap (map off) c.as-mut-slice.ensures.value) in
-    let settings = refilled_map restored x.settings c.restore.new.settings (c.restore.ensures ∙ ap (map restored) c.as-mut-slice-2.ensures.value) in
-    let homed : any_of (of_source x.home) (vec_items (with_items x.pairs c.switch-off.new.pairs)) ≡ true =
+    let pairs = refilled_map off x.pairs c.switch_off.new.pairs (c.switch_off.ensures ∙ ap (map off) c.as_mut_slice.ensures.value) in
+    let settings = refilled_map restored x.settings c.restore.new.settings (c.restore.ensures ∙ ap (map restored) c.as_mut_slice-2.ensures.value) in
+    let homed : any_of (of_source x.home) (vec_items (with_items x.pairs c.switch_off.new.pairs)) ≡ true =
     ap (any_of (of_source x.home)) pairs ∙ any_map (of_source x.home) (λ z. z) off (λ z. refl) xs ∙ x.homed in
     let anchored : Anchored (vec_items (with_items x.settings c.restore.new.settings)) (vec_items x.offers) =
     λ p v h. ap (any_of (at_point p)) settings ∙ any_map (at_point p) (λ z. z) restored (λ z. refl) ys ∙ x.anchored p v h in
@@ -27,8 +27,8 @@ returns c =
     let x = c.args.self.now in
     let xs = vec_items x.pairs in
     let ys = vec_items x.settings in
-    let pairs = refilled_map off x.pairs c.switch-off.new.pairs (c.switch-off.ensures ∙ ap (map off) c.as-mut-slice.ensures.value) in
-    let settings = refilled_map restored x.settings c.restore.new.settings (c.restore.ensures ∙ ap (map restored) c.as-mut-slice-2.ensures.value) in
+    let pairs = refilled_map off x.pairs c.switch_off.new.pairs (c.switch_off.ensures ∙ ap (map off) c.as_mut_slice.ensures.value) in
+    let settings = refilled_map restored x.settings c.restore.new.settings (c.restore.ensures ∙ ap (map restored) c.as_mut_slice-2.ensures.value) in
     record {
       same = λ j. record {
         offers_source = λ a. (ap (any_of (of_source a)) pairs ∙ any_map (of_source a) (λ z. z) off (λ z. refl) xs) j;

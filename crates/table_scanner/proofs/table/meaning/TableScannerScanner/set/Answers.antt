@@ -6,12 +6,12 @@ use Rattle.table_scanner.specs.Entries.{at_point, offering, Anchored}
 use Rattle.table_scanner.specs.Moves.{any_none, taken_points, taken_initial, taken_current}
 use Rattle.table_scanner.proofs.table.meaning.TableScannerScanner.set.Goals as goal
 
-pub invariant-of-self : goal.invariant-of-self
-invariant-of-self c =
+pub invariant_of-self : goal.invariant_of-self
+invariant_of-self c =
     let x = c.args.self.now in
     let old = c.index.result.now in
     let kept : Anchored (set (vec_items x.settings) c.in-Some.i (record { point = c.args.point; initial = old.initial; current = c.args.value })) (vec_items x.offers) =
-    λ p v h. taken_points (vec_items x.settings) _ c.in-Some.i c.args.point c.args.value old c.as-slice.ensures.value c.in-Some.ensures c.index.ensures p ∙ x.anchored p v h in
+    λ p v h. taken_points (vec_items x.settings) _ c.in-Some.i c.args.point c.args.value old c.as_slice.ensures.value c.in-Some.ensures c.index.ensures p ∙ x.anchored p v h in
     search rules
 
 pub returns-in-Some : goal.returns-in-Some
@@ -22,7 +22,7 @@ returns-in-Some c =
     let p = c.args.point in
     let v = c.args.value in
     let old = c.index.result.now in
-    let e = c.as-slice.ensures.value in
+    let e = c.as_slice.ensures.value in
     let h = c.in-Some.ensures in
     record {
       same = λ j. record {
@@ -44,5 +44,5 @@ returns-in-None c =
     let p = c.args.point in
     let v = c.args.value in
     let offered : any_of (offering p v) (vec_items x.offers) ≡ true = search rules in
-    let none = any_none (at_point p) (vec_items x.settings) _ c.as-slice.ensures.value c.in-None.ensures in
+    let none = any_none (at_point p) (vec_items x.settings) _ c.as_slice.ensures.value c.in-None.ensures in
     absurd (both_ways _ (sym none) (x.anchored p v offered))
