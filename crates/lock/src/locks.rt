@@ -94,9 +94,9 @@ impl<S: Scanner> Lock<S> {
 }
 
 impl<S: Scanner> Scanner for Lock<S> {
-    ghost catalogue = { λ x. locked (S.Scanner.catalogue x.below) (forbidden x.bans.items) };
+    ghost catalogue = { λ x. locked (S.catalogue x.below) (forbidden x.bans.items) };
 
-    ghost state = { λ x. S.Scanner.state x.below };
+    ghost state = { λ x. S.state x.below };
 
     ghost home_source_offered = { first_of (Prim.search rules, Prim.grind (arith, Self.row.coded.inj)) };
 
@@ -149,7 +149,7 @@ impl<S: Scanner> Scanner for Lock<S> {
 
 // Whether a pile of two locks offers a value: it is offered below, and neither lock bans it.
 pub fn pile_offers<S: Scanner>(pile: &Lock<Lock<S>>, point: Point, value: Value) -> bool
-    ensures answer { result ≡ ((S.Scanner.catalogue pile.now.below.below).offers_value point value && not (either (forbidden pile.now.below.bans.items) (forbidden pile.now.bans.items) point.attribute value)) }
+    ensures answer { result ≡ ((S.catalogue pile.now.below.below).offers_value point value && not (either (forbidden pile.now.below.bans.items) (forbidden pile.now.bans.items) point.attribute value)) }
     ensures law { PileBansTheUnion }
 {
     pile.offers_value(point, value)
@@ -159,7 +159,7 @@ pub fn pile_offers<S: Scanner>(pile: &Lock<Lock<S>>, point: Point, value: Value)
 pub fn swapped<S: Scanner>(pile: Lock<Lock<S>>) -> Lock<Lock<S>>
     ensures below { result.below.below ≡ pile.below.below }
     ensures bans { (result.bans.items ≡ pile.below.bans.items) × (result.below.bans.items ≡ pile.bans.items) }
-    ensures same { locked (locked (S.Scanner.catalogue result.below.below) (forbidden result.below.bans.items)) (forbidden result.bans.items) ≡ locked (locked (S.Scanner.catalogue pile.below.below) (forbidden pile.below.bans.items)) (forbidden pile.bans.items) }
+    ensures same { locked (locked (S.catalogue result.below.below) (forbidden result.below.bans.items)) (forbidden result.bans.items) ≡ locked (locked (S.catalogue pile.below.below) (forbidden pile.below.bans.items)) (forbidden pile.bans.items) }
     ensures law { PileInAnyOrder }
 {
     let Lock {

@@ -35,7 +35,7 @@ pub(crate) fn after(records: &[Record], i: usize) -> &[Record]
 
 // The value, if it is offered.
 fn offered_value<S: Scanner>(scanner: &S, point: Point, value: Option<Value>) -> Option<Value>
-    ensures { result ≡ value_meant (catalogue scanner.now) point value }
+    ensures { result ≡ value_meant (S.catalogue scanner.now) point value }
 {
     match value {
         Some(v) => if scanner.offers_value(point, v) {
@@ -60,8 +60,8 @@ fn closes(head: Head) -> bool
 // Values are tried in order, and the first offered one is taken.
 // A value that is not offered and has an exception of its own closes the list.
 fn choose<S: Scanner>(scanner: &S, point: Point, records: &[Record]) -> Choice
-    ensures value { result ≡ chosen (catalogue scanner.now) point (values_in records.now) }
-    ensures law { ChosenOnce (catalogue scanner.now) point (values_in records.now) }
+    ensures value { result ≡ chosen (S.catalogue scanner.now) point (values_in records.now) }
+    ensures law { ChosenOnce (S.catalogue scanner.now) point (values_in records.now) }
 {
     let mut choice = Choice::Unset;
     'values: for record in records {
@@ -100,7 +100,7 @@ fn offered_point<S: Scanner>(
     format: PixelFormat,
     attribute: Option<Attribute>,
 ) -> Option<Point>
-    ensures { result ≡ point_meant (catalogue scanner.now) source format attribute }
+    ensures { result ≡ point_meant (S.catalogue scanner.now) source format attribute }
 {
     match attribute {
         Some(attribute) => {
@@ -131,7 +131,7 @@ fn attribute_here<S: Scanner>(
     values: &[Record],
 ) -> Result<(), Trouble>
     ensures place { place.new ≡ place.old }
-    ensures went { Went (attribute_here (catalogue scanner.now) source format place.old force (attribute_of head word values.now)) (attribute_items (catalogue scanner.now) source format (attribute_of head word values.now)) (held plan.old) (held plan.new) result }
+    ensures went { Went (attribute_here (S.catalogue scanner.now) source format place.old force (attribute_of head word values.now)) (attribute_items (S.catalogue scanner.now) source format (attribute_of head word values.now)) (held plan.old) (held plan.new) result }
 {
     note(place, head, force, head.unknown)?;
     let Some(point) = offered_point(scanner, source, format, word.value) else {
@@ -159,7 +159,7 @@ fn attribute<S: Scanner>(
     values: &[Record],
 ) -> Result<(), Trouble>
     ensures place { place.new ≡ place.old }
-    ensures went { Went (attribute_troubles (catalogue scanner.now) source format place.old parent (attribute_of head word values.now)) (attribute_items (catalogue scanner.now) source format (attribute_of head word values.now)) (held plan.old) (held plan.new) result }
+    ensures went { Went (attribute_troubles (S.catalogue scanner.now) source format place.old parent (attribute_of head word values.now)) (attribute_items (S.catalogue scanner.now) source format (attribute_of head word values.now)) (held plan.old) (held plan.new) result }
 {
     let outer = place.enter(Level::Attribute, head.index);
     let inside = Inside {
@@ -191,7 +191,7 @@ fn attributes<S: Scanner>(
     records: &[Record],
 ) -> Result<(), Trouble>
     ensures place { place.new ≡ place.old }
-    ensures went { Went (attributes_troubles (catalogue scanner.now) source format place.old parent (attributes_in records.now)) (attributes_items (catalogue scanner.now) source format (attributes_in records.now)) (held plan.old) (held plan.new) result }
+    ensures went { Went (attributes_troubles (S.catalogue scanner.now) source format place.old parent (attributes_in records.now)) (attributes_items (S.catalogue scanner.now) source format (attributes_in records.now)) (held plan.old) (held plan.new) result }
 {
     'attributes: for (i, record) in records.iter().enumerate() {
         match *record {
@@ -221,7 +221,7 @@ fn offered_format<S: Scanner>(
     source: Source,
     word: Option<Placed<Wanted<PixelFormat>>>,
 ) -> Option<PixelFormat>
-    ensures { result ≡ format_meant (catalogue scanner.now) source word }
+    ensures { result ≡ format_meant (S.catalogue scanner.now) source word }
 {
     let format = match word {
         None => scanner.home_format(source),
@@ -249,7 +249,7 @@ fn format_here<S: Scanner>(
     records: &[Record],
 ) -> Result<(), Trouble>
     ensures place { place.new ≡ place.old }
-    ensures went { Went (format_here (catalogue scanner.now) source place.old force (format_of head word records.now)) (format_items (catalogue scanner.now) source (format_of head word records.now)) (held plan.old) (held plan.new) result }
+    ensures went { Went (format_here (S.catalogue scanner.now) source place.old force (format_of head word records.now)) (format_items (S.catalogue scanner.now) source (format_of head word records.now)) (held plan.old) (held plan.new) result }
 {
     note(place, head, force, head.unknown)?;
     let Some(format) = offered_format(scanner, source, word) else {
@@ -270,7 +270,7 @@ fn format<S: Scanner>(
     records: &[Record],
 ) -> Result<(), Trouble>
     ensures place { place.new ≡ place.old }
-    ensures went { Went (format_troubles (catalogue scanner.now) source place.old parent (format_of head word records.now)) (format_items (catalogue scanner.now) source (format_of head word records.now)) (held plan.old) (held plan.new) result }
+    ensures went { Went (format_troubles (S.catalogue scanner.now) source place.old parent (format_of head word records.now)) (format_items (S.catalogue scanner.now) source (format_of head word records.now)) (held plan.old) (held plan.new) result }
 {
     let outer = place.enter(Level::PixelFormat, head.index);
     let inside = Inside {
@@ -300,7 +300,7 @@ fn formats<S: Scanner>(
     records: &[Record],
 ) -> Result<(), Trouble>
     ensures place { place.new ≡ place.old }
-    ensures went { Went (formats_troubles (catalogue scanner.now) source place.old parent (formats_in records.now)) (formats_items (catalogue scanner.now) source (formats_in records.now)) (held plan.old) (held plan.new) result }
+    ensures went { Went (formats_troubles (S.catalogue scanner.now) source place.old parent (formats_in records.now)) (formats_items (S.catalogue scanner.now) source (formats_in records.now)) (held plan.old) (held plan.new) result }
 {
     'formats: for (i, record) in records.iter().enumerate() {
         match *record {
@@ -334,7 +334,7 @@ fn formats_or_home<S: Scanner>(
     records: &[Record],
 ) -> Result<(), Trouble>
     ensures place { place.new ≡ place.old }
-    ensures went { Went (formats_troubles (catalogue scanner.now) source place.old parent (formats_in records.now)) (or_else (home_pair (catalogue scanner.now) source) (formats_items (catalogue scanner.now) source (formats_in records.now))) (held plan.old) (held plan.new) result }
+    ensures went { Went (formats_troubles (S.catalogue scanner.now) source place.old parent (formats_in records.now)) (or_else (home_pair (S.catalogue scanner.now) source) (formats_items (S.catalogue scanner.now) source (formats_in records.now))) (held plan.old) (held plan.new) result }
 {
     let before = plan.len();
     formats(scanner, place, plan, source, parent, records)?;
@@ -346,7 +346,7 @@ fn formats_or_home<S: Scanner>(
 
 // The source that an object asks for, if it is offered.
 fn offered_source<S: Scanner>(scanner: &S, word: Option<Placed<Wanted<Source>>>) -> Option<Source>
-    ensures { result ≡ source_meant (catalogue scanner.now) word }
+    ensures { result ≡ source_meant (S.catalogue scanner.now) word }
 {
     let source = match word {
         None => scanner.home_source(),
@@ -373,7 +373,7 @@ fn source_here<S: Scanner>(
     records: &[Record],
 ) -> Result<(), Trouble>
     ensures place { place.new ≡ place.old }
-    ensures went { Went (source_here (catalogue scanner.now) place.old force (source_of head word records.now)) (source_items (catalogue scanner.now) (source_of head word records.now)) (held plan.old) (held plan.new) result }
+    ensures went { Went (source_here (S.catalogue scanner.now) place.old force (source_of head word records.now)) (source_items (S.catalogue scanner.now) (source_of head word records.now)) (held plan.old) (held plan.new) result }
 {
     note(place, head, force, head.unknown)?;
     let Some(source) = offered_source(scanner, word) else {
@@ -393,7 +393,7 @@ fn source<S: Scanner>(
     records: &[Record],
 ) -> Result<(), Trouble>
     ensures place { place.new ≡ place.old }
-    ensures went { Went (source_troubles (catalogue scanner.now) place.old parent (source_of head word records.now)) (source_items (catalogue scanner.now) (source_of head word records.now)) (held plan.old) (held plan.new) result }
+    ensures went { Went (source_troubles (S.catalogue scanner.now) place.old parent (source_of head word records.now)) (source_items (S.catalogue scanner.now) (source_of head word records.now)) (held plan.old) (held plan.new) result }
 {
     let outer = place.enter(Level::Source, head.index);
     let inside = Inside {
@@ -413,7 +413,7 @@ fn sources<S: Scanner>(
     records: &[Record],
 ) -> Result<(), Trouble>
     ensures place { place.new ≡ place.old }
-    ensures went { Went (sources_troubles (catalogue scanner.now) place.old parent (sources_in records.now)) (sources_items (catalogue scanner.now) (sources_in records.now)) (held plan.old) (held plan.new) result }
+    ensures went { Went (sources_troubles (S.catalogue scanner.now) place.old parent (sources_in records.now)) (sources_items (S.catalogue scanner.now) (sources_in records.now)) (held plan.old) (held plan.new) result }
 {
     'sources: for (i, record) in records.iter().enumerate() {
         match *record {
@@ -431,7 +431,7 @@ fn sources<S: Scanner>(
 
 // The plan of the default stream: the home source with its home format.
 pub fn default_plan<S: Scanner>(scanner: &S, plan: &mut Plan)
-    ensures { held plan.new ≡ default_items (catalogue scanner.now) }
+    ensures { held plan.new ≡ default_items (S.catalogue scanner.now) }
 {
     let home = scanner.home_source();
     plan.clear();
@@ -448,7 +448,7 @@ fn stream_here<S: Scanner>(
     records: &[Record],
 ) -> Result<(), Trouble>
     ensures place { place.new ≡ place.old }
-    ensures went { Went (stream_here (catalogue scanner.now) place.old force (stream_of head records.now)) (stream_items (catalogue scanner.now) (stream_of head records.now)) [] (held plan.new) result }
+    ensures went { Went (stream_here (S.catalogue scanner.now) place.old force (stream_of head records.now)) (stream_items (S.catalogue scanner.now) (stream_of head records.now)) [] (held plan.new) result }
 {
     note(place, head, force, head.unknown)?;
     plan.clear();
@@ -469,7 +469,7 @@ pub(crate) fn stream<S: Scanner>(
     records: &[Record],
 ) -> Result<(), Trouble>
     ensures place { place.new ≡ place.old }
-    ensures went { Went (stream_troubles (catalogue scanner.now) place.old (record { stream = (stream_of head records.now); force = force })) (stream_items (catalogue scanner.now) (stream_of head records.now)) [] (held plan.new) result }
+    ensures went { Went (stream_troubles (S.catalogue scanner.now) place.old (record { stream = (stream_of head records.now); force = force })) (stream_items (S.catalogue scanner.now) (stream_of head records.now)) [] (held plan.new) result }
 {
     let outer = place.enter(Level::Stream, head.index);
     let inside = Inside {

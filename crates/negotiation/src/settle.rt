@@ -62,7 +62,7 @@ fn streams<S: Scanner>(
     records: &[Record],
 ) -> Result<(), Rejection>
     ensures place { place.new ≡ place.old }
-    ensures told { streams_tell (held plan.new) result ≡ in_room (outcome_of (catalogue scanner.now) (ending (stream_troubles (catalogue scanner.now) place.old) None (with_forces action entries (streams_in records.now)))) }
+    ensures told { streams_tell (held plan.new) result ≡ in_room (outcome_of (S.catalogue scanner.now) (ending (stream_troubles (S.catalogue scanner.now) place.old) None (with_forces action entries (streams_in records.now)))) }
 {
     let mut passed: Option<Trouble> = None;
     'streams: for (i, record) in records.iter().enumerate() {
@@ -134,7 +134,7 @@ fn action_here<S: Scanner>(
     records: &[Record],
 ) -> Result<Verdict, Rejection>
     ensures place { place.new ≡ place.old }
-    ensures acted { Acted (action_here (catalogue scanner.now) place.old (action_of head word entries records.now)) (held plan.old) (held plan.new) result }
+    ensures acted { Acted (action_here (S.catalogue scanner.now) place.old (action_of head word entries records.now)) (held plan.old) (held plan.new) result }
 {
     let other = is_other(word);
     own_trouble(place, head, other || head.unknown)?;
@@ -155,7 +155,7 @@ fn action<S: Scanner>(
     records: &[Record],
 ) -> Result<Verdict, Rejection>
     ensures place { place.new ≡ place.old }
-    ensures acted { Acted (action_outcome (catalogue scanner.now) place.old (action_of head word entries records.now)) (held plan.old) (held plan.new) result }
+    ensures acted { Acted (action_outcome (S.catalogue scanner.now) place.old (action_of head word entries records.now)) (held plan.old) (held plan.new) result }
 {
     let outer = place.enter(Level::Action, head.index);
     let inside = Inside {
@@ -175,7 +175,7 @@ pub fn negotiate<S: Scanner>(
     records: &[Record],
 ) -> Result<Verdict, Rejection>
     ensures place { place.new ≡ place.old }
-    ensures negotiated { Negotiated (catalogue scanner.now) place.old (actions_in records.now) (held plan.old) (held plan.new) result }
+    ensures negotiated { Negotiated (S.catalogue scanner.now) place.old (actions_in records.now) (held plan.old) (held plan.new) result }
 {
     let mut verdict = Verdict::Unchanged;
     'actions: for (i, record) in records.iter().enumerate() {

@@ -16,9 +16,9 @@ pub enum Item {
 
 // Puts in one item, and says whether it is offered; one that is not has no effect.
 fn put_item<S: Scanner>(scanner: &mut S, item: Item) -> bool
-    ensures same { catalogue scanner.new ≡ catalogue scanner.old }
-    ensures answer { result ≡ item_offered (catalogue scanner.old) item }
-    ensures after { state scanner.new ≡ (if item_offered (catalogue scanner.old) item then item_put (state scanner.old) item else state scanner.old) }
+    ensures same { S.catalogue scanner.new ≡ S.catalogue scanner.old }
+    ensures answer { result ≡ item_offered (S.catalogue scanner.old) item }
+    ensures after { S.state scanner.new ≡ (if item_offered (S.catalogue scanner.old) item then item_put (S.state scanner.old) item else S.state scanner.old) }
 {
     match item {
         Item::Source(_) => true,
@@ -31,10 +31,10 @@ fn put_item<S: Scanner>(scanner: &mut S, item: Item) -> bool
 // Afterwards just the pairs of the plan are enabled, and each point is at its last line's value or, lacking one,
 // at its power-on value.
 pub fn put_in<S: Scanner>(scanner: &mut S, plan: &[Item])
-    ensures same { catalogue scanner.new ≡ catalogue scanner.old }
-    ensures after { state scanner.new ≡ plan_put (catalogue scanner.old) plan.now }
-    ensures law { InForce (catalogue scanner.old) (offered_of (catalogue scanner.old) plan.now) (state scanner.new) }
-    ensures whole { AllOffered (catalogue scanner.old) plan.now → InForce (catalogue scanner.old) plan.now (state scanner.new) }
+    ensures same { S.catalogue scanner.new ≡ S.catalogue scanner.old }
+    ensures after { S.state scanner.new ≡ plan_put (S.catalogue scanner.old) plan.now }
+    ensures law { InForce (S.catalogue scanner.old) (offered_of (S.catalogue scanner.old) plan.now) (S.state scanner.new) }
+    ensures whole { AllOffered (S.catalogue scanner.old) plan.now → InForce (S.catalogue scanner.old) plan.now (S.state scanner.new) }
 {
     scanner.reset();
     for item in plan {

@@ -1,9 +1,8 @@
 // An attribute of a pair of a source and a pixel format.
 ghost use Rattle.std.specs.Prelude.{◌≡◌};
 ghost use Rattle.scanner.specs.Meaning.{same_point};
-ghost use Rattle.std.specs.Cmp.Rules.{comparing};
-ghost use Rattle.std.proofs.Common.{rules};
-ghost use Rattle.std.specs.Cmp as Keys;
+ghost use Rattle.scanner.specs.SamePoint.{same_point_equiv};
+ghost use Rattle.std.specs.Cmp.{partial_equiv_from_equiv};
 
 use names::{Attribute, PixelFormat, Source};
 
@@ -17,7 +16,7 @@ pub struct Point {
 impl PartialEq for Point {
     ghost eq = { λ a b. same_point a b };
 
-    ghost laws = { Keys.partial_equiv_from_equiv (Prim.search (comparing, rules)) };
+    ghost laws = { partial_equiv_from_equiv same_point_equiv };
 
     fn eq(&self, other: &Point) -> bool {
         self.source == other.source
@@ -27,5 +26,5 @@ impl PartialEq for Point {
 }
 
 impl Eq for Point {
-    ghost laws = { Prim.search (comparing, rules) };
+    ghost laws = { same_point_equiv };
 }

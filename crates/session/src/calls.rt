@@ -15,8 +15,8 @@ use table::{Place, Record, read_task};
 impl<S: Scanner> Session<S> {
     // Takes a scanner in any state and gives it the plan of the default stream.
     pub fn open(heap: Global, scanner: S) -> Result<Session<S>, NoMemory<S>>
-        ensures same { IfOk result (λ x. S.Scanner.catalogue x.scanner ≡ S.Scanner.catalogue scanner) }
-        ensures holds { IfOk result (λ x. Holds (S.Scanner.catalogue scanner) (S.Scanner.state x.scanner) x.kept) }
+        ensures same { IfOk result (λ x. S.catalogue x.scanner ≡ S.catalogue scanner) }
+        ensures holds { IfOk result (λ x. Holds (S.catalogue scanner) (S.state x.scanner) x.kept) }
         ensures back { IfErr result (λ e. e.scanner ≡ scanner) }
     {
         let Ok(mut kept) = Plan::new(heap) else {
@@ -53,8 +53,8 @@ impl<S: Scanner> Session<S> {
 
     // Submits a task. An accepted one gives the scanner the plan of its last configure action; without such an action nothing changes.
     pub fn submit(&mut self, text: &[u8], table: &mut [Record]) -> Result<(), SubmitFault>
-        ensures same { S.Scanner.catalogue self.new.scanner ≡ S.Scanner.catalogue self.old.scanner }
-        ensures holds { OnOk result ((Unmoved self.old self.new) ⊎ (Holds (S.Scanner.catalogue self.old.scanner) (S.Scanner.state self.new.scanner) self.new.kept)) }
+        ensures same { S.catalogue self.new.scanner ≡ S.catalogue self.old.scanner }
+        ensures holds { OnOk result ((Unmoved self.old self.new) ⊎ (Holds (S.catalogue self.old.scanner) (S.state self.new.scanner) self.new.kept)) }
         ensures refused { OnErr result (Unmoved self.old self.new) }
     {
         let used = read_task(text, &mut self.place, table)?;

@@ -181,20 +181,20 @@ members-returns-in_err-name t c = record {
   reads = λ x q. broken (ReadsObject x _ _ _ _ _ _ _) _ c.from_residual.ensures.1 (parts_stops (c.loop-name.invariant.3 x q) (λ m. text_stops (c.in_err-name.ensures c.args.levels)) nothing);
 }
 
-pub members-returns-in_err-inner : goal.members-returns-in_err-inner
-members-returns-in_err-inner t c =
+pub members-returns-in_err-inner-in-Named : goal.members-returns-in_err-inner-in-Named
+members-returns-in_err-inner-in-Named t c =
     let lv = c.args.levels in let h = c.loop-name.draft in let i = c.in-Named.name.offset in
     let n = member_goes _ _ _ _ _ c.in-Named.is c.in_ok-name.ensures in
     let o = key_spelled (stands c.in-Named.name.value.now) in
     record {
-      place = c.in_err-inner.ensures.place ∙ c.loop-name.invariant.0;
+      place = c.in_err-inner-in-Named.ensures.place ∙ c.loop-name.invariant.0;
       reads = λ x q.
           let z = c.loop-name.invariant.3 x q in
           let e : c.loop-name.reader.text.now ≡ x = ap (λ y. y.now) (z.works nothing).same ∙ q in
           let k : o ≡ key_at (drop i x) = ap (λ v. key_spelled (stands v)) (n.holds ∙ ap (λ v. string_part (drop i v)) e) in
-          broken (ReadsObject x _ _ _ _ _ _ _) _ c.from_residual-in_err-inner.ensures.1
+          broken (ReadsObject x _ _ _ _ _ _ _) _ c.from_residual-in_err-inner-in-Named.ensures.1
           (parts_stops (parts_step z (λ m. token (at_members h m) (at_name o h i m) name i (n.passed lv) (λ ps. name_comes x h m i ps o k)))
-          (λ m. on_stops (λ k. members false lv ∷ k) (λ ps. ps) (c.in_err-inner.ensures.reads x (ap (λ y. y.now) (n.passed lv).same ∙ e) m)) nothing);
+          (λ m. on_stops (λ k. members false lv ∷ k) (λ ps. ps) (c.in_err-inner-in-Named.ensures.reads x (ap (λ y. y.now) (n.passed lv).same ∙ e) m)) nothing);
     }
 
 pub members-close-requires : goal.members-close-requires
@@ -218,7 +218,7 @@ members-returns-in-End t c =
 pub members-loop-name-smaller : goal.members-loop-name-smaller
 members-loop-name-smaller t c =
     let n = member_goes _ _ _ _ _ c.in-Named.is c.in_ok-name.ensures in
-    let u = (c.in_ok-inner.ensures.reads _ refl).works nothing in
+    let u = (c.in_ok-inner-in-Named.ensures.reads _ refl).works nothing in
     let e : length c.member-in-Named.new.reader.text.now ≡ length c.loop-name.reader.text.now = ap (λ y. length y.now) (u.same ∙ (n.passed 0).same) in
     let b : c.member-in-Named.new.reader.at ≤ length c.member-in-Named.new.reader.text.now = c.member-in-Named.new.reader.within in
     omega (arith, u.forth, n.moves)
@@ -228,15 +228,15 @@ members-loop-name-preserved t c =
     let lv = c.args.levels in let h = c.loop-name.draft in let i = c.in-Named.name.offset in
     let n = member_goes _ _ _ _ _ c.in-Named.is c.in_ok-name.ensures in
     let o = key_spelled (stands c.in-Named.name.value.now) in (
-      c.in_ok-inner.ensures.place ∙ c.loop-name.invariant.0,
-      c.in_ok-inner.ensures.level ∙ c.loop-name.invariant.1,
-      (c.in_ok-inner.ensures.reads _ refl).room,
+      c.in_ok-inner-in-Named.ensures.place ∙ c.loop-name.invariant.0,
+      c.in_ok-inner-in-Named.ensures.level ∙ c.loop-name.invariant.1,
+      (c.in_ok-inner-in-Named.ensures.reads _ refl).room,
       λ x q.
           let z = c.loop-name.invariant.3 x q in
           let e : c.loop-name.reader.text.now ≡ x = ap (λ y. y.now) (z.works nothing).same ∙ q in
           let k : o ≡ key_at (drop i x) = ap (λ v. key_spelled (stands v)) (n.holds ∙ ap (λ v. string_part (drop i v)) e) in
           parts_then (parts_step z (λ m. token (at_members h m) (at_name o h i m) name i (n.passed lv) (λ ps. name_comes x h m i ps o k)))
-          (on_parts (λ k. members false lv ∷ k) (c.in_ok-inner.ensures.reads x (ap (λ y. y.now) (n.passed lv).same ∙ e))),
+          (on_parts (λ k. members false lv ∷ k) (c.in_ok-inner-in-Named.ensures.reads x (ap (λ y. y.now) (n.passed lv).same ∙ e))),
     )
 
 pub member-returns-in_err-value : goal.member-returns-in_err-value

@@ -7,9 +7,9 @@ use Rattle.table.specs.Steps.{Takes}
 use Rattle.table.proofs.Taking.{broken, not_allowed, is_allowed, is_word}
 use Rattle.table.proofs.draft.Draft.take.Goals as goal
 
-pub returns-in_err-exception : goal.returns-in_err-exception
-returns-in_err-exception c =
-    let n = not_allowed (stands c.args.raw.now) c.args.offset c.args.self.now _ c.in_err-exception.ensures in
+pub returns-in_err-exception-in-Exception : goal.returns-in_err-exception-in-Exception
+returns-in_err-exception-in-Exception c =
+    let n = not_allowed (stands c.args.raw.now) c.args.offset c.args.self.now _ c.in_err-exception-in-Exception.ensures in
     broken (Takes (stands c.args.raw.now) c.args.key c.args.offset c.args.self.now c.args.self.now) _ c.from_residual.ensures.1 (rw c.in-Exception.is n.0, n.1, refl)
 
 pub returns-in-Comment : goal.returns-in-Comment
@@ -20,10 +20,10 @@ pub returns-in-Vendor : goal.returns-in-Vendor
 unfolding taken foreign vendor
 returns-in-Vendor c = (rw c.in-Vendor.is (ap (λ b. Some (with_skipped (not b) c.args.self.now)) (tested _ _ _ c.spells_ignoring_case.ensures)), refl)
 
-pub returns-in_ok-exception : goal.returns-in_ok-exception
-returns-in_ok-exception c =
-    let p = c.in_ok-exception.exception in
-    let a = c.in_ok-exception.ensures in
+pub returns-in_ok-exception-in-Exception : goal.returns-in_ok-exception-in-Exception
+returns-in_ok-exception-in-Exception c =
+    let p = c.in_ok-exception-in-Exception.exception in
+    let a = c.in_ok-exception-in-Exception.ensures in
     (rw c.in-Exception.is (is_allowed (stands c.args.raw.now) c.args.offset c.args.self.now p a), refl)
 
 pub returns-in_default : goal.returns-in_default
