@@ -34,20 +34,20 @@ Y k s f h w rs = attribute_items k s f (attribute_of h w rs)
 pub attributes-init : goal.attributes-init
 attributes-init g c = record { place = refl; on = record { passed = refl; added = refl } }
 
-pub returns-in_err-attribute : goal.returns-in_err-attribute
-returns-in_err-attribute g c =
+pub returns-in_err-attribute-in-Attribute : goal.returns-in_err-attribute-in-Attribute
+returns-in_err-attribute-in-Attribute g c =
     let k = g.S.Scanner.catalogue c.args.scanner.now in
     let a = c.in-Attribute in
     record {
       place = c.attribute.ensures.place ∙ c.attributes.invariant.place;
-      went = along_left (T k c.args.source c.args.format c.args.place.now c.args.parent) (X k c.args.source c.args.format) (F k c.args.source c.args.format c.args.parent a.head a.word) (Y k c.args.source c.args.format a.head a.word) _ c.attributes.invariant c.attributes-test.true a.is c.after.ensures refl c.from_residual.ensures.1 c.in_err-attribute.ensures.went;
+      went = along_left (T k c.args.source c.args.format c.args.place.now c.args.parent) (X k c.args.source c.args.format) (F k c.args.source c.args.format c.args.parent a.head a.word) (Y k c.args.source c.args.format a.head a.word) _ c.attributes.invariant c.attributes-test.true a.is c.after.ensures refl c.from_residual.ensures.1 c.in_err-attribute-in-Attribute.ensures.went;
     }
 
 pub attributes-preserved : goal.attributes-preserved
 attributes-preserved g c =
     let k = g.S.Scanner.catalogue c.args.scanner.now in
     let a = c.in-Attribute in
-    along_past (T k c.args.source c.args.format c.args.place.now c.args.parent) (X k c.args.source c.args.format) (F k c.args.source c.args.format c.args.parent a.head a.word) (Y k c.args.source c.args.format a.head a.word) _ c.attributes.invariant c.attributes-test.true a.is c.after.ensures refl refl c.attribute.ensures.place c.in_ok-attribute.ensures.went
+    along_past (T k c.args.source c.args.format c.args.place.now c.args.parent) (X k c.args.source c.args.format) (F k c.args.source c.args.format c.args.parent a.head a.word) (Y k c.args.source c.args.format a.head a.word) _ c.attributes.invariant c.attributes-test.true a.is c.after.ensures refl refl c.attribute.ensures.place c.in_ok-attribute-in-Attribute.ensures.went
 
 pub attributes-preserved-in-Value : goal.attributes-preserved-in-Value
 attributes-preserved-in-Value g c =

@@ -33,20 +33,20 @@ Y k s h w rs = format_items k s (format_of h w rs)
 pub formats-init : goal.formats-init
 formats-init g c = record { place = refl; on = record { passed = refl; added = refl } }
 
-pub returns-in_err-format : goal.returns-in_err-format
-returns-in_err-format g c =
+pub returns-in_err-format-in-PixelFormat : goal.returns-in_err-format-in-PixelFormat
+returns-in_err-format-in-PixelFormat g c =
     let k = g.S.Scanner.catalogue c.args.scanner.now in
     let a = c.in-PixelFormat in
     record {
       place = c.format.ensures.place ∙ c.formats.invariant.place;
-      went = along_left (T k c.args.source c.args.place.now c.args.parent) (X k c.args.source) (F k c.args.source c.args.parent a.head a.word) (Y k c.args.source a.head a.word) _ c.formats.invariant c.formats-test.true a.is c.after.ensures refl c.from_residual.ensures.1 c.in_err-format.ensures.went;
+      went = along_left (T k c.args.source c.args.place.now c.args.parent) (X k c.args.source) (F k c.args.source c.args.parent a.head a.word) (Y k c.args.source a.head a.word) _ c.formats.invariant c.formats-test.true a.is c.after.ensures refl c.from_residual.ensures.1 c.in_err-format-in-PixelFormat.ensures.went;
     }
 
 pub formats-preserved : goal.formats-preserved
 formats-preserved g c =
     let k = g.S.Scanner.catalogue c.args.scanner.now in
     let a = c.in-PixelFormat in
-    along_past (T k c.args.source c.args.place.now c.args.parent) (X k c.args.source) (F k c.args.source c.args.parent a.head a.word) (Y k c.args.source a.head a.word) _ c.formats.invariant c.formats-test.true a.is c.after.ensures refl refl c.format.ensures.place c.in_ok-format.ensures.went
+    along_past (T k c.args.source c.args.place.now c.args.parent) (X k c.args.source) (F k c.args.source c.args.parent a.head a.word) (Y k c.args.source a.head a.word) _ c.formats.invariant c.formats-test.true a.is c.after.ensures refl refl c.format.ensures.place c.in_ok-format-in-PixelFormat.ensures.went
 
 pub formats-preserved-in-Value : goal.formats-preserved-in-Value
 formats-preserved-in-Value g c =

@@ -32,20 +32,20 @@ Y k h w rs = source_items k (source_of h w rs)
 pub sources-init : goal.sources-init
 sources-init g c = record { place = refl; on = record { passed = refl; added = refl } }
 
-pub returns-in_err-source : goal.returns-in_err-source
-returns-in_err-source g c =
+pub returns-in_err-source-in-Source : goal.returns-in_err-source-in-Source
+returns-in_err-source-in-Source g c =
     let k = g.S.Scanner.catalogue c.args.scanner.now in
     let a = c.in-Source in
     record {
       place = c.source.ensures.place ∙ c.sources.invariant.place;
-      went = along_left (T k c.args.place.now c.args.parent) (X k) (F k c.args.parent a.head a.word) (Y k a.head a.word) _ c.sources.invariant c.sources-test.true a.is c.after.ensures refl c.from_residual.ensures.1 c.in_err-source.ensures.went;
+      went = along_left (T k c.args.place.now c.args.parent) (X k) (F k c.args.parent a.head a.word) (Y k a.head a.word) _ c.sources.invariant c.sources-test.true a.is c.after.ensures refl c.from_residual.ensures.1 c.in_err-source-in-Source.ensures.went;
     }
 
 pub sources-preserved : goal.sources-preserved
 sources-preserved g c =
     let k = g.S.Scanner.catalogue c.args.scanner.now in
     let a = c.in-Source in
-    along_past (T k c.args.place.now c.args.parent) (X k) (F k c.args.parent a.head a.word) (Y k a.head a.word) _ c.sources.invariant c.sources-test.true a.is c.after.ensures refl refl c.source.ensures.place c.in_ok-source.ensures.went
+    along_past (T k c.args.place.now c.args.parent) (X k) (F k c.args.parent a.head a.word) (Y k a.head a.word) _ c.sources.invariant c.sources-test.true a.is c.after.ensures refl refl c.source.ensures.place c.in_ok-source-in-Source.ensures.went
 
 pub sources-preserved-in-Value : goal.sources-preserved-in-Value
 sources-preserved-in-Value g c =

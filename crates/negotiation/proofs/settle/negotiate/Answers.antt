@@ -18,19 +18,19 @@ actions-preserved g c =
     let k = g.S.Scanner.catalogue c.args.scanner.now in
     let a = c.in-Action in
     elim c.match-branch-2.branch [
-      | in-Configured w ↦ judged_to k w.verdict-is (judge_planned k c.actions.i _ a.head a.word a.entries c.actions-test.true a.is c.after.ensures c.action.ensures.place c.actions.invariant (acted_to w.in-Configured.is c.in_ok-action.ensures.acted))
-      | in-Unchanged w ↦ judged_to k w.verdict-is (judge_unchanged k c.actions.i _ a.head a.word a.entries c.actions-test.true a.is c.after.ensures c.action.ensures.place c.actions.invariant (acted_to w.in-Unchanged.is c.in_ok-action.ensures.acted))
+      | in-Configured w ↦ judged_to k w.verdict-is (judge_planned k c.actions.i _ a.head a.word a.entries c.actions-test.true a.is c.after.ensures c.action.ensures.place c.actions.invariant (acted_to w.in-Configured.is c.in_ok-action-in-Action.ensures.acted))
+      | in-Unchanged w ↦ judged_to k w.verdict-is (judge_unchanged k c.actions.i _ a.head a.word a.entries c.actions-test.true a.is c.after.ensures c.action.ensures.place c.actions.invariant (acted_to w.in-Unchanged.is c.in_ok-action-in-Action.ensures.acted))
     ]
 
-pub returns-in_err-action : goal.returns-in_err-action
-returns-in_err-action g c =
+pub returns-in_err-action-in-Action : goal.returns-in_err-action-in-Action
+returns-in_err-action-in-Action g c =
     let x = c.args.scanner.now in
     let k = g.S.Scanner.catalogue x in
     let a = c.in-Action in
     record {
       place = c.action.ensures.place ∙ c.actions.invariant.place;
       negotiated = negotiated k (g.met.S.Scanner.home_source_offered x) (g.met.S.Scanner.home_format_offered x) c.args.place.now (actions_in c.args.records.now) _ _ _
-          (judge_rejected k _ _ c.actions.i _ a.head a.word a.entries c.actions-test.true a.is c.after.ensures c.actions.invariant c.in_err-action.ensures.acted c.from_residual.ensures.1)
+          (judge_rejected k _ _ c.actions.i _ a.head a.word a.entries c.actions-test.true a.is c.after.ensures c.actions.invariant c.in_err-action-in-Action.ensures.acted c.from_residual.ensures.1)
           (no_verdict _ _ Unchanged c.from_residual.ensures.1);
     }
 
