@@ -1,10 +1,9 @@
 -- What a lock bans, and what is left to offer.
-use Rattle.std.specs.Prelude.{◌≡◌, ℕ, ◌+◌, Bool, false, cond, not, ◌&&◌, ◌||◌, List, length, ℤ, pos, is_some, is_ok, Some, None, Option, Result, int_le, nat_le}
+use Rattle.std.specs.Prelude.{◌≡◌, ℕ, ◌+◌, Bool, false, cond, not, ◌&&◌, ◌||◌, List, length, ℤ, is_some, is_ok, Some, None, Option, Result, int_le, nat_le}
 use Rattle.names.specs.declared.kinds.Attribute.{Attribute}
 use Rattle.names.specs.declared.kinds.Word.{Word}
 use Rattle.names.specs.declared.kinds.Value.{Value}
 use Rattle.names.specs.declared.kinds.Value.TheVariants as values
-use Rattle.names.specs.Numbers.{attribute_numbered, word_numbered}
 use Rattle.names.specs.Same.{same_attribute, same_word}
 use Rattle.scanner.specs.Meaning.{Catalogue}
 use Rattle.lock.specs.declared.ban.Ban.{Ban}

@@ -1,5 +1,5 @@
 -- Names that lie end to end in a table of letters, and which of them a string stands for.
-use Rattle.std.specs.Prelude.{ℕ, suc, ◌-◌, Bool, true, false, List, [], ◌∷◌, Some, None, Option, slice_index_or, slice_range}
+use Rattle.std.specs.Prelude.{ℕ, suc, Bool, true, false, List, [], ◌∷◌, Some, None, Option, slice_index_or, slice_range}
 use Rattle.text.specs.Strings.{matching}
 
 -- the letters from one place to another

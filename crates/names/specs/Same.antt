@@ -1,5 +1,5 @@
 -- When two names, or two values, are the same.
-use Rattle.std.specs.Prelude.{Bool, true, false, ℤ, pos, negsuc, ◌==◌}
+use Rattle.std.specs.Prelude.{Bool, false, ℤ, pos, negsuc, ◌==◌}
 use Rattle.names.specs.declared.kinds.Source.{Source}
 use Rattle.names.specs.declared.kinds.PixelFormat.{PixelFormat}
 use Rattle.names.specs.declared.kinds.Attribute.{Attribute}

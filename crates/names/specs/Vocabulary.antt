@@ -1,5 +1,5 @@
 -- The vocabulary: the names of the sources, pixel formats, attributes and value words, and what each names.
-use Rattle.std.specs.Prelude.{◌≡◌, ℕ, ◌-◌, Bool, true, List, [], ◌∷◌, map, get_or, Some, None, codes, Option, slice_index_or, slice_range}
+use Rattle.std.specs.Prelude.{◌≡◌, ℕ, true, List, [], ◌∷◌, map, get_or, Some, codes, Option, slice_index_or, slice_range}
 use Rattle.std.specs.Option.{option_map}
 use Rattle.names.specs.declared.kinds.Source.{Source}
 use Rattle.names.specs.declared.kinds.PixelFormat.{PixelFormat}

@@ -9,7 +9,7 @@ use Rattle.negotiation.specs.declared.inspect.Choice.TheVariants.{Unset, Taken, 
 use Rattle.text.specs.declared.token.Placed.{Placed}
 use Rattle.table.specs.Task.{ValueObject}
 use Rattle.negotiation.specs.Words.{value_meant}
-use Rattle.negotiation.specs.Choices.{EachPassing, TakenBy, ClosedBy, Chooses, ChosenOnce, picking, closing, chosen_from, chosen}
+use Rattle.negotiation.specs.Choices.{EachPassing, Chooses, ChosenOnce, picking, closing, chosen_from, chosen}
 
 abbrev tail : Catalogue → Point → ValueObject → List ValueObject → Choice
 tail k p x xs = closing x.head.exception (Closed x.head) (chosen_from k p (Closed x.head) xs)

@@ -1,9 +1,9 @@
 -- The streams of an action come to exactly one ending.
-use Rattle.std.proofs.Common.{◌≡◌, ℕ, ◌⊎◌, List, [], ◌∷◌, ◌++◌, Some, None, Option, sym, refl, ap, ◌∙◌, subst, inl, inr, arith}
+use Rattle.std.proofs.Common.{◌≡◌, ℕ, List, [], ◌∷◌, ◌++◌, Some, None, Option, sym, refl, ap, ◌∙◌, subst, inl, inr, arith}
 use Rattle.table.specs.declared.exception.Exception.{Exception}
 use Rattle.table.specs.declared.exception.Exception.TheVariants.{Fail, Ignore, NextStream}
 use Rattle.negotiation.specs.declared.trouble.Trouble.{Trouble}
-use Rattle.negotiation.specs.Endings.{Fits, Decides, StopsBy, PassedBy, EachPassed, MetBy, StoppedBy, RanOutBy, Ending, by_default, met, unmet, failing, ran_out, Ends, decide, turn, onward, ending}
+use Rattle.negotiation.specs.Endings.{Fits, Decides, StopsBy, PassedBy, EachPassed, Ending, by_default, met, unmet, failing, ran_out, Ends, decide, turn, onward, ending}
 use Rattle.negotiation.proofs.Deciding.{fits_decide, decides_some, none_fits, some_decides}
 
 -- what the relation has is what is computed

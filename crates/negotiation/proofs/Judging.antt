@@ -1,19 +1,18 @@
 -- One action more of a task, and what the whole call tells.
-use Rattle.std.proofs.Common.{◌≡◌, ℕ, ◌+◌, ◌<◌, ◌≤◌, Bool, true, false, List, [], ◌∷◌, ◌++◌, length, get_or, drop, IsErrAnd, Ok, Err, Option, Result, sym, refl, ap, ◌∙◌, subst, arith}
-use Rattle.std.proofs.lemmas.List.{drop_more, drop_all}
+use Rattle.std.proofs.Common.{◌≡◌, ℕ, ◌+◌, ◌<◌, List, [], ◌∷◌, length, get_or, drop, IsErrAnd, Ok, Err, Option, Result, sym, refl, ap, ◌∙◌, subst, arith}
+use Rattle.std.proofs.lemmas.List.{drop_more}
 use Rattle.text.specs.declared.token.Placed.{Placed}
 use Rattle.table.specs.declared.place.Place.{Place}
 use Rattle.table.specs.declared.record.Head.{Head}
 use Rattle.table.specs.declared.record.Verb.{Verb}
 use Rattle.table.specs.declared.record.Record.{Record}
-use Rattle.table.specs.Task.{ActionObject}
 use Rattle.table.specs.Views.{action_of, actions_in}
 use Rattle.scanner.specs.declared.plan.Item.{Item}
 use Rattle.scanner.specs.Meaning.{Catalogue}
 use Rattle.negotiation.specs.declared.settle.Verdict.{Verdict}
 use Rattle.negotiation.specs.declared.settle.Verdict.TheVariants.{Configured, Unchanged}
 use Rattle.negotiation.specs.declared.trouble.Rejection.{Rejection}
-use Rattle.negotiation.specs.Verdicts.{Outcome, unchanged, planned, rejected, by_itself, action_outcome, after_action, outcome_from, task_outcome}
+use Rattle.negotiation.specs.Verdicts.{Outcome, unchanged, planned, rejected, action_outcome, after_action, outcome_from, task_outcome}
 use Rattle.negotiation.specs.Tellings.{in_room, tells, Acted}
 use Rattle.negotiation.proofs.Steps.{NoAction, actions_over}
 

@@ -1,5 +1,5 @@
 -- Every pair and line of a stream's plan is offered.
-use Rattle.std.proofs.Common.{◌≡◌, ℕ, Bool, true, false, cond, List, [], ◌∷◌, ◌++◌, Some, None, Option, sym, refl, ap, ◌∙◌, subst, arith}
+use Rattle.std.proofs.Common.{◌≡◌, ℕ, Bool, true, false, cond, List, [], ◌∷◌, Some, None, Option, sym, refl, ap, ◌∙◌, arith}
 use Rattle.std.specs.List.{AllByRecursion as All}
 use Rattle.std.proofs.ByRecursion.{All-append}
 use Rattle.names.specs.declared.kinds.Source.{Source}
@@ -13,7 +13,7 @@ use Rattle.negotiation.specs.declared.inspect.Choice.{Choice}
 use Rattle.negotiation.specs.declared.inspect.Choice.TheVariants.{Unset, Taken, Closed}
 use Rattle.negotiation.specs.Words.{meant_by, if_offered, source_meant, format_meant, point_meant}
 use Rattle.negotiation.specs.Choices.{Chooses, chosen}
-use Rattle.negotiation.specs.Plans.{or_else, within, line_of, attribute_items, attributes_items, format_items, formats_items, home_pair, source_items, sources_items, default_items, stream_items}
+use Rattle.negotiation.specs.Plans.{or_else, within, line_of, attribute_items, attributes_items, format_items, formats_items, home_pair, source_items, sources_items, default_items}
 use Rattle.negotiation.proofs.Choosing.{chosen_once}
 use Rattle.negotiation.proofs.Holding.{OfStreams, OfActions}
 

@@ -1,6 +1,6 @@
 -- One stream more of an action.
-use Rattle.std.proofs.Common.{◌≡◌, ℕ, ◌+◌, ◌<◌, ◌≤◌, List, [], ◌∷◌, ◌++◌, length, get_or, drop, Some, None, Option, Result, sym, refl, ap, ◌∙◌, subst}
-use Rattle.std.proofs.lemmas.List.{drop_more, drop_all}
+use Rattle.std.proofs.Common.{◌≡◌, ℕ, ◌+◌, ◌<◌, List, [], ◌∷◌, length, get_or, drop, Some, None, Option, Result, sym, refl, ap, ◌∙◌, subst}
+use Rattle.std.proofs.lemmas.List.{drop_more}
 use Rattle.text.specs.declared.token.Placed.{Placed}
 use Rattle.table.specs.declared.exception.Exception.{Exception}
 use Rattle.table.specs.declared.exception.Exception.TheVariants.{Fail, Ignore, NextStream}
@@ -15,7 +15,7 @@ use Rattle.negotiation.specs.Exceptions.{Forced, with_force, with_forces}
 use Rattle.negotiation.specs.Troubles.{stream_troubles}
 use Rattle.negotiation.specs.Plans.{stream_items}
 use Rattle.negotiation.specs.Tellings.{Went}
-use Rattle.negotiation.specs.Endings.{Ending, met, unmet, failing, ran_out, decide, turn, onward, at_end, ending}
+use Rattle.negotiation.specs.Endings.{Ending, met, unmet, failing, decide, turn, onward, at_end, ending}
 use Rattle.negotiation.proofs.Goings.{went_like}
 use Rattle.negotiation.proofs.Deciding.{some_decides}
 use Rattle.negotiation.proofs.Steps.{NoStream, NoAction, streams_over}

@@ -1,5 +1,5 @@
 -- One record more: the view of a level at a record of another kind.
-use Rattle.std.proofs.Common.{◌≡◌, ℕ, ◌+◌, ◌<◌, ◌≤◌, Bool, true, false, List, [], ◌∷◌, ◌++◌, length, get_or, drop, is_some, Some, None, Option, sym, refl, ap, ◌∙◌, arith}
+use Rattle.std.proofs.Common.{◌≡◌, ℕ, ◌+◌, ◌<◌, Bool, true, false, List, [], ◌∷◌, length, get_or, drop, is_some, Some, None, Option, sym, refl, ap, ◌∙◌, arith}
 use Rattle.std.proofs.lemmas.List.{at_drop_more}
 use Rattle.table.specs.declared.exception.Exception.{Exception}
 use Rattle.text.specs.declared.token.Placed.{Placed}
@@ -15,7 +15,7 @@ use Rattle.table.specs.Views.{values_in, attributes_in, formats_in, sources_in, 
 use Rattle.scanner.specs.declared.point.Point.{Point}
 use Rattle.scanner.specs.Meaning.{Catalogue}
 use Rattle.negotiation.specs.declared.inspect.Choice.{Choice}
-use Rattle.negotiation.specs.declared.inspect.Choice.TheVariants.{Unset, Taken, Closed}
+use Rattle.negotiation.specs.declared.inspect.Choice.TheVariants.{Closed}
 use Rattle.negotiation.specs.Words.{value_meant}
 use Rattle.negotiation.specs.Choices.{chosen_from, picking, closing}
 

@@ -1,6 +1,5 @@
 -- What a whole negotiation tells.
-use Rattle.std.proofs.Common.{◌≡◌, ℕ, ◌≤◌, true, List, length, take, Ok, Err, Result, sym, refl, ap, ◌∙◌, subst, arith}
-use Rattle.std.specs.List.{AllByRecursion as All}
+use Rattle.std.proofs.Common.{◌≡◌, ℕ, ◌≤◌, true, List, length, take, Ok, Result, sym, refl, ap, ◌∙◌, subst, arith}
 use Rattle.std.proofs.ByRecursion.{All-take}
 use Rattle.names.specs.declared.kinds.Source.{Source}
 use Rattle.table.specs.declared.place.Place.{Place}
@@ -9,11 +8,10 @@ use Rattle.scanner.specs.declared.plan.Item.{Item}
 use Rattle.scanner.specs.Meaning.{Catalogue}
 use Rattle.scanner.specs.Plan.{item_offered, AllOffered}
 use Rattle.negotiation.specs.declared.settle.Verdict.{Verdict}
-use Rattle.negotiation.specs.declared.settle.Verdict.TheVariants.{Configured, Unchanged}
+use Rattle.negotiation.specs.declared.settle.Verdict.TheVariants.{Unchanged}
 use Rattle.negotiation.specs.declared.trouble.Rejection.{Rejection}
 use Rattle.negotiation.specs.Plans.{plan_room, fitted}
 use Rattle.negotiation.specs.Verdicts.{Outcome, unchanged, planned, rejected, task_outcome}
-use Rattle.negotiation.specs.Weights.{task_weight}
 use Rattle.negotiation.specs.Tellings.{in_room, tells, Negotiated}
 use Rattle.negotiation.proofs.Rooms.{fit_all}
 use Rattle.negotiation.proofs.Verdicting.{one_verdict}

@@ -1,5 +1,5 @@
 -- The plan of a task has no more items than the task weighs.
-use Rattle.std.proofs.Common.{◌≡◌, ℕ, ◌+◌, ◌≤◌, List, [], ◌∷◌, ◌++◌, length, Some, None, Option, sym, refl, ap, ◌∙◌, arith, length-append}
+use Rattle.std.proofs.Common.{ℕ, ◌+◌, ◌≤◌, List, [], ◌∷◌, length, Some, None, Option, arith, length-append}
 use Rattle.names.specs.declared.kinds.Source.{Source}
 use Rattle.names.specs.declared.kinds.PixelFormat.{PixelFormat}
 use Rattle.table.specs.Task.{AttributeObject, FormatObject, SourceObject, StreamObject, ActionObject}
@@ -10,8 +10,8 @@ use Rattle.negotiation.specs.declared.inspect.Choice.{Choice}
 use Rattle.negotiation.specs.declared.inspect.Choice.TheVariants.{Unset, Taken, Closed}
 use Rattle.negotiation.specs.Words.{source_meant, format_meant, point_meant}
 use Rattle.negotiation.specs.Choices.{chosen}
-use Rattle.negotiation.specs.Plans.{or_else, within, line_of, attribute_items, attributes_items, format_items, formats_items, home_pair, source_items, sources_items, default_items, stream_items}
-use Rattle.negotiation.specs.Weights.{weight_with, values_weight, attributes_weight, formats_weight, sources_weight, stream_weight, streams_weight, task_weight}
+use Rattle.negotiation.specs.Plans.{or_else, within, line_of, attribute_items, attributes_items, format_items, formats_items, home_pair, source_items, sources_items, default_items}
+use Rattle.negotiation.specs.Weights.{weight_with, attributes_weight, formats_weight, sources_weight, stream_weight, streams_weight, task_weight}
 use Rattle.negotiation.proofs.Holding.{OfStreams, OfActions}
 
 within_most : {X : Type 0} (o : Option X) (inside : X → List Item) (n : ℕ) → ((x : X) → length (inside x) ≤ n) → length (within o inside) ≤ n

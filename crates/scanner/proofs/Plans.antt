@@ -1,5 +1,5 @@
 -- What the items of a plan come to, and the loop that puts them in.
-use Rattle.std.proofs.Common.{◌≡◌, ℕ, ◌+◌, ◌<◌, ◌≤◌, Bool, true, false, cond, ◌&&◌, ◌⊎◌, List, [], ◌∷◌, ◌++◌, length, get_or, drop, Some, Decides, sym, refl, ap, ◌∙◌, subst, inl, inr, arith}
+use Rattle.std.proofs.Common.{◌≡◌, ℕ, ◌+◌, ◌<◌, ◌≤◌, true, false, cond, ◌&&◌, ◌⊎◌, List, [], ◌∷◌, length, get_or, drop, Some, Decides, sym, refl, ap, ◌∙◌, subst, inl, inr, arith}
 use Rattle.std.proofs.lemmas.List.{at_drop_more, at_drop_all}
 use Rattle.std.proofs.lemmas.Bool.{cases_Bool, cond-true, cond-false, and_parts, both_ways}
 use Rattle.names.specs.declared.kinds.Source.{Source}
@@ -9,7 +9,7 @@ use Rattle.names.specs.Same.{same_source, same_format}
 use Rattle.scanner.specs.declared.point.Point.{Point}
 use Rattle.scanner.specs.declared.plan.Item.{Item}
 use Rattle.scanner.specs.declared.plan.Item.TheVariants as items
-use Rattle.scanner.specs.Meaning.{Catalogue, State, powered, enabling, setting, same_point}
+use Rattle.scanner.specs.Meaning.{Catalogue, State, powered, setting, same_point}
 use Rattle.scanner.specs.Plan.{item_offered, AllOffered, offered_of, item_put, items_put, plan_put, InPlan, NoLine, LastLine, InForce}
 use Rattle.scanner.proofs.Sames.{source_eq, format_eq, point_eq, pair_refl, point_refl}
 

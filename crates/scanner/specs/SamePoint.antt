@@ -7,5 +7,5 @@ use Rattle.scanner.specs.Meaning.{same_point}
 pub same_point_equiv : IsEquivalence same_point
 same_point_equiv =
     and_equiv
-      (on_equiv (λ (p : Point). source_code p.source) nat_eq_equiv)
-      (and_equiv (on_equiv (λ (p : Point). format_code p.format) nat_eq_equiv) (on_equiv (λ (p : Point). attribute_code p.attribute) nat_eq_equiv))
+    (on_equiv (λ (p : Point). source_code p.source) nat_eq_equiv)
+    (and_equiv (on_equiv (λ (p : Point). format_code p.format) nat_eq_equiv) (on_equiv (λ (p : Point). attribute_code p.attribute) nat_eq_equiv))

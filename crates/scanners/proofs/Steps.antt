@@ -1,5 +1,5 @@
 -- A number is reached in whole steps from low exactly where its distance from low is divided by the step.
-use Rattle.std.proofs.Common.{◌≡◌, ℕ, ◌+◌, ◌*◌, ◌/◌, ◌%◌, eqb, ℤ, pos, ◌+ℤ◌, ◌-ℤ◌, nat_abs, ◌≤ℤ◌, Decides, sym, refl, ap, ◌∙◌, div-add-mod', arith}
+use Rattle.std.proofs.Common.{◌≡◌, ℕ, ◌*◌, ◌/◌, ◌%◌, eqb, ℤ, pos, ◌+ℤ◌, ◌-ℤ◌, nat_abs, ◌≤ℤ◌, Decides, ap, ◌∙◌, div-add-mod', arith}
 use native.Mathlib.Nat.{mul-mod_left}
 use lib.Signed.{yes_non_neg, pos-nat_abs}
 use Rattle.std.proofs.lemmas.Int.{ints}

@@ -1,5 +1,5 @@
 -- The flatbed: one source with two formats, and three attributes at both.
-use Rattle.std.specs.Prelude.{◌≡◌, ℕ, ◌%◌, Bool, true, false, cond, ◌&&◌, ◌||◌, ℤ, pos, negsuc, Some, None, Option, ◌==◌, nat_le}
+use Rattle.std.specs.Prelude.{ℕ, ◌%◌, Bool, false, cond, ◌&&◌, ◌||◌, pos, negsuc, Some, None, Option, ◌==◌, nat_le}
 use Rattle.names.specs.declared.kinds.Source.{Source}
 use Rattle.names.specs.declared.kinds.PixelFormat.{PixelFormat}
 use Rattle.names.specs.declared.kinds.Attribute.{Attribute}
@@ -7,7 +7,6 @@ use Rattle.names.specs.declared.kinds.Word.{Word}
 use Rattle.names.specs.declared.kinds.Value.{Value}
 use Rattle.names.specs.declared.kinds.Value.TheVariants as values
 use Rattle.names.specs.Same.{same_source, same_format, same_attribute, same_word}
-use Rattle.scanner.specs.declared.point.Point.{Point}
 use Rattle.scanner.specs.Meaning.{Catalogue, State}
 use Rattle.scanners.specs.declared.flatbed.Settings.{Settings}
 use Rattle.scanners.specs.declared.flatbed.Flatbed.{Flatbed}

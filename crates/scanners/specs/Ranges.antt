@@ -1,5 +1,5 @@
 -- The numbers of a range: low, low + step, and so on up to high.
-use Rattle.std.specs.Prelude.{◌≡◌, ℕ, ◌*◌, ◌%◌, Bool, true, false, ◌&&◌, ℤ, pos, ◌+ℤ◌, ◌-ℤ◌, ◌≤ℤ◌, ◌==◌, int_le, unsigned_abs}
+use Rattle.std.specs.Prelude.{◌≡◌, ℕ, ◌*◌, ◌%◌, Bool, ◌&&◌, ℤ, pos, ◌+ℤ◌, ◌-ℤ◌, ◌≤ℤ◌, ◌==◌, int_le, unsigned_abs}
 
 -- n is low and some steps more, and not beyond high
 abbrev pub Reached : ℤ → ℤ → ℕ → ℤ → Type 0

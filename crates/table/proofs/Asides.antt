@@ -1,18 +1,18 @@
 -- Values of which only the JSON counts.
-use Rattle.std.proofs.Common.{◌≡◌, ℕ, zero, suc, Bool, true, false, List, [], ◌∷◌, drop, sym, refl, ap, ◌∙◌}
+use Rattle.std.proofs.Common.{◌≡◌, ℕ, suc, true, List, ◌∷◌, drop, sym, refl, ap, ◌∙◌}
 use Rattle.text.specs.declared.reader.Reader.{Reader}
 use Rattle.text.specs.declared.token.Token.{Token}
-use Rattle.text.specs.Machine.{Frame, Kind, Tape, ending, event, value, begin_object, end_object, begin_array, end_array, name, string, number, literal_true, literal_false, literal_null}
+use Rattle.text.specs.Machine.{Kind, Tape, ending, event, value, begin_object, end_object, begin_array, end_array, name, string, number, literal_true, literal_false, literal_null}
 use Rattle.text.specs.Tree.{Json, Members, Entries, scalar, object, array, no_member, one_member, no_entry, one_entry, events, member_events, entry_events, Scalar, Proper, ProperMembers, ProperEntries}
-use Rattle.text.specs.Ahead.{ahead, Stack, Passed, Starts, ValueRead, kind_of}
+use Rattle.text.specs.Ahead.{ahead, Starts, ValueRead, kind_of}
 use Rattle.text.proofs.Frames.{same_ending}
 use Rattle.table.specs.declared.keys.Key.{Key}
 use Rattle.table.specs.declared.draft.Draft.{Draft}
 use Rattle.table.specs.declared.meaning.Meaning.{Meaning}
 use Rattle.table.specs.Words.{value_meaning}
 use Rattle.table.specs.Drafts.{with_word}
-use Rattle.table.specs.Form.{Lot, Doing, doing, Place, between, before_value, beside, State, inside, on_at, on, after, aside, is_value_name}
-use Rattle.table.specs.Works.{States, Works, at_members, at_value}
+use Rattle.table.specs.Form.{Lot, Doing, doing, Place, between, beside, State, inside, on_at, after, is_value_name}
+use Rattle.table.specs.Works.{Works, at_members, at_value}
 
 abbrev deep : ℕ → Doing → List Place → State
 deep n d ps = inside (beside n d ∷ ps)

@@ -1,5 +1,5 @@
 -- Records put into the table one lot after the other.
-use Rattle.std.proofs.Common.{◌≡◌, ℕ, zero, suc, ◌+◌, ◌-◌, ◌<◌, ◌≤◌, min, Bool, true, false, eqb, ◌≢◌, ◌⊎◌, List, [], ◌∷◌, ◌++◌, length, get_or, set, Some, None, sym, refl, ap, ◌∙◌, inl, inr, arith, length-append, length-set, eq-eqb}
+use Rattle.std.proofs.Common.{◌≡◌, ℕ, zero, suc, ◌+◌, ◌-◌, ◌<◌, Bool, true, false, eqb, ◌≢◌, List, [], ◌∷◌, length, get_or, sym, refl, ap, ◌∙◌, inl, inr, arith, length-append, length-set, eq-eqb}
 use Rattle.std.proofs.lemmas.Bool.Decides.{nat_tests}
 use Rattle.std.proofs.lemmas.Bool.{cases_lt}
 use Rattle.std.proofs.lemmas.List.{get_or_append_left, get_or-append_right, get_or-set_same, get_or-set_other}
@@ -7,9 +7,8 @@ use Rattle.table.specs.declared.level.Level.{Level}
 use Rattle.table.specs.declared.record.Record.{Record}
 use Rattle.table.specs.declared.draft.Draft.{Draft}
 use Rattle.table.specs.declared.tally.Tally.{Tally}
-use Rattle.table.specs.Levels.{absent_weight}
 use Rattle.table.specs.Form.{Lot, ◌⊕◌, nothing, doing, closed, is_task, leaves, own_weight, default_weight}
-use Rattle.table.specs.Works.{most, Filled, Reserved, ObjectClosed, stored, used_after, absent_if}
+use Rattle.table.specs.Works.{Filled, Reserved, ObjectClosed, stored, used_after, absent_if}
 
 pub filled_nothing : (rs : List Record) (a : Tally) → Filled rs rs a a nothing
 filled_nothing rs a = record { uses = omega arith; weighs = omega arith; long = refl; kept = λ k h d. refl; stands = λ k h. absurd (omega arith) }

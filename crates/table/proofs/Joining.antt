@@ -1,15 +1,13 @@
 -- How readings follow one another, and how they stop.
-use Rattle.std.proofs.Common.{◌≡◌, ℕ, zero, suc, ◌+◌, ◌<◌, ◌≤◌, Bool, true, false, List, [], ◌∷◌, Ok, Err, Result, sym, refl, ap, ◌∙◌, arith}
+use Rattle.std.proofs.Common.{◌≡◌, ℕ, List, Err, refl, ap, ◌∙◌, arith}
 use Rattle.text.specs.declared.reader.Reader.{Reader}
 use Rattle.text.specs.declared.fault.TextFault.{TextFault}
-use Rattle.text.specs.declared.token.Token.{Token}
-use Rattle.text.specs.Machine.{Frame, Kind, Tape, ending, good, fault, event, value, begin_object, end_object, begin_array, end_array, name, string, number, literal_true, literal_false, literal_null}
-use Rattle.text.specs.Tree.{Json, Members, Entries, scalar, object, array, no_member, one_member, no_entry, one_entry, events, member_events, entry_events}
-use Rattle.text.specs.Ahead.{ahead, Stack, Passed, Halted, Starts, kind_of}
+use Rattle.text.specs.Machine.{Frame, Kind, Tape, ending, good, fault, event}
+use Rattle.text.specs.Ahead.{ahead, Stack, Passed, Halted}
 use Rattle.table.specs.declared.fault.TableFault.{TableFault}
-use Rattle.table.specs.declared.fault.TableFault.TheVariants.{Text, Form, TooHeavy}
+use Rattle.table.specs.declared.fault.TableFault.TheVariants.{Text, Form}
 use Rattle.table.specs.declared.fault.FormRule.{FormRule}
-use Rattle.table.specs.Form.{Doing, Place, between, beside, State, inside, failed, on_at, on, after, aside}
+use Rattle.table.specs.Form.{Place, failed, on_at, on, after}
 use Rattle.table.specs.Works.{States, Works, Stops}
 
 -- a fault of the form stays

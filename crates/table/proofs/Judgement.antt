@@ -1,5 +1,5 @@
 -- From one pass over a text to the verdict.
-use Rattle.std.proofs.Common.{◌≡◌, ℕ, ◌+◌, ◌<◌, ◌≤◌, min, Bool, true, false, leb, List, [], ◌∷◌, length, get_or, take, Ok, Err, Result, sym, refl, ap, ◌∙◌, arith}
+use Rattle.std.proofs.Common.{◌≡◌, ℕ, ◌+◌, ◌<◌, ◌≤◌, min, true, false, leb, List, [], ◌∷◌, length, get_or, take, Ok, Err, Result, sym, refl, ap, ◌∙◌, arith}
 use Rattle.std.proofs.lemmas.Bool.Decides.{nat_tests}
 use Rattle.std.proofs.lemmas.List.{same_lists, get_or-take, length-take}
 use Rattle.text.specs.declared.reader.Reader.{Reader}
@@ -16,7 +16,7 @@ use Rattle.table.specs.declared.fault.FormRule.{FormRule}
 use Rattle.table.specs.Limits.{max_weight}
 use Rattle.table.specs.Form.{Lot, begins, failed, done, given, after}
 use Rattle.table.specs.Verdict.{form, verdict, ReadsTask, objects, HoldsTask}
-use Rattle.table.specs.Works.{Works, Stops, Filled, most, Passes}
+use Rattle.table.specs.Works.{Works, Stops, Filled, Passes}
 
 from_start : (t : List ℕ) (r : Reader) → r.at ≡ 0 → r.text.now ≡ t → tape t ≡ ahead r (value most_levels ∷ [])
 unfolding tape ahead

@@ -1,12 +1,12 @@
 -- Parts of a task read one after the other.
-use Rattle.std.proofs.Common.{◌≡◌, ℕ, suc, ◌+◌, ◌-◌, ◌<◌, ◌≤◌, Bool, true, false, eqb, List, ◌∷◌, ◌++◌, length, drop, IfOk, Some, None, Ok, Err, Option, Result, sym, refl, ap, ◌∙◌, append_assoc, append-nil, add-zero, add_assoc, zero-add, arith, Bor}
+use Rattle.std.proofs.Common.{◌≡◌, ℕ, ◌+◌, ◌<◌, ◌≤◌, Bool, true, false, eqb, List, ◌∷◌, ◌++◌, drop, IfOk, Some, None, Ok, Err, Result, sym, ap, ◌∙◌, append_assoc, append-nil, add-zero, add_assoc, zero-add, arith, Bor}
 use Rattle.std.proofs.lemmas.Bool.Decides.{nat_tests}
 use Rattle.text.specs.declared.reader.Reader.{Reader}
 use Rattle.text.specs.declared.token.Token.{Token}
 use Rattle.text.specs.declared.token.Member.{Member}
 use Rattle.text.specs.declared.token.Member.TheVariants.{Named, End}
 use Rattle.text.specs.declared.token.Placed.{Placed}
-use Rattle.text.specs.Machine.{Frame, value, members, entries as entry_Frame, event, name, string, end_object, end_array}
+use Rattle.text.specs.Machine.{value, members, entries as entry_Frame, event, string, end_object, end_array}
 use Rattle.text.specs.Strings.{stands}
 use Rattle.text.specs.Parts.{string_part}
 use Rattle.text.specs.Ahead.{Stack, Passed, TokenRead, NameRead, ReadsMember, ReadsEntry}
@@ -20,7 +20,7 @@ use Rattle.table.specs.declared.fault.FormRule.TheVariants.{WrongKind, NamesakeM
 use Rattle.table.specs.Drafts.{taken}
 use Rattle.table.specs.Steps.{Takes}
 use Rattle.table.specs.Form.{Lot, ◌⊕◌, nothing, doing, Place, entries, closed, is_value_name, given, own_weight}
-use Rattle.table.specs.Works.{States, Works, Stops, Filled, Reserved, ObjectClosed, Closes, used_after, ObjectRead, ReadsObject, PartsRead, ReadsParts, ReadsString, at_members, at_value, at_entries}
+use Rattle.table.specs.Works.{States, Works, Stops, Reserved, Closes, used_after, ReadsObject, PartsRead, ReadsParts, ReadsString, at_members, at_value, at_entries}
 use Rattle.table.proofs.Joining.{stay, then, then_stops, token, token_fails, stops_is, on_works, becomes, starts_as, on_stops, stops_as}
 use Rattle.table.proofs.Rules.{one_more, string_comes, object_ends, namesake_missing}
 use Rattle.table.proofs.Fillings.{filled_nothing, filled_then, filled_close}

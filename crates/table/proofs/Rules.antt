@@ -1,5 +1,5 @@
 -- What each token does to the form, in the words of the code that reads it.
-use Rattle.std.proofs.Common.{◌≡◌, ℕ, ◌+◌, Bool, true, false, ltb, List, [], ◌∷◌, drop, Some, None, Option, sym, refl, ap, ◌∙◌, Bor}
+use Rattle.std.proofs.Common.{◌≡◌, ℕ, ◌+◌, true, false, ltb, List, [], ◌∷◌, drop, Some, None, Option, refl, Bor}
 use Rattle.text.specs.declared.token.Token.{Token}
 use Rattle.text.specs.Machine.{begin_object, end_object, begin_array, end_array, name, string}
 use Rattle.text.specs.Strings.{stands}
@@ -12,7 +12,7 @@ use Rattle.table.specs.declared.draft.Draft.{Draft}
 use Rattle.table.specs.declared.fault.FormRule.TheVariants.{OutermostNoObject, ArrayElsewhere, WrongKind, NamesakeMissing, Repeated, TooMany}
 use Rattle.table.specs.Levels.{is_array_name, part, knows, limit}
 use Rattle.table.specs.Drafts.{seen_before, noted, with_unknown, with_entries, taken, record_of}
-use Rattle.table.specs.Form.{Lot, ◌⊕◌, nothing, doing, begun, Place, between, entries, beside, State, begins, inside, failed, closed, given, on_name, on_taken, key_at, is_value_name, on_at, on}
+use Rattle.table.specs.Form.{Lot, ◌⊕◌, doing, begun, Place, between, entries, beside, begins, inside, failed, closed, given, on_name, on_taken, key_at, is_value_name, on_at, on}
 use Rattle.table.specs.Works.{at_members, at_array, at_value, at_entries, at_name}
 
 module _ (t : List ℕ) (h : Draft) (b : Lot) (i : ℕ) (ps : List Place) where

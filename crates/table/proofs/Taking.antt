@@ -1,5 +1,5 @@
 -- What the strings of members and the value of a value object come to.
-use Rattle.std.proofs.Common.{◌≡◌, ℕ, Bool, true, false, List, [], ◌∷◌, ℤ, IsErrAnd, Some, None, Ok, Err, Option, Result, sym, refl, ap, ◌∙◌, Bor}
+use Rattle.std.proofs.Common.{◌≡◌, ℕ, List, ℤ, IsErrAnd, Some, None, Ok, Err, Option, Result, sym, refl, ap, Bor}
 use Rattle.std.specs.Option.{option_map}
 use Rattle.text.specs.declared.token.Placed.{Placed}
 use Rattle.text.specs.declared.token.Token.{Token}
@@ -12,16 +12,14 @@ use Rattle.names.specs.declared.kinds.Value.{Value}
 use Rattle.names.specs.declared.kinds.Word.{Word}
 use Rattle.names.specs.Vocabulary.{word_spelled}
 use Rattle.table.specs.declared.keys.Key.{Key}
-use Rattle.table.specs.declared.level.Level.{Level}
 use Rattle.table.specs.declared.exception.Exception.{Exception}
 use Rattle.table.specs.declared.meaning.Meaning.{Meaning}
 use Rattle.table.specs.declared.draft.Draft.{Draft}
 use Rattle.table.specs.declared.fault.TableFault.{TableFault}
 use Rattle.table.specs.declared.fault.TableFault.TheVariants.{Form}
 use Rattle.table.specs.declared.fault.FormRule.TheVariants.{WrongKind}
-use Rattle.table.specs.Levels.{allows}
 use Rattle.table.specs.Words.{exception_spelled, word_meaning, value_meaning}
-use Rattle.table.specs.Drafts.{placed, excepted, with_exception, with_word, taken}
+use Rattle.table.specs.Drafts.{excepted, with_word, taken}
 use Rattle.table.specs.Steps.{AllowedBy}
 
 -- a result that left by `?` has the fault that it left by

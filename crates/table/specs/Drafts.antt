@@ -1,5 +1,5 @@
 -- An object of which some members were read: what each member does to it, and what it comes to at its end.
-use Rattle.std.specs.Prelude.{ℕ, Bool, true, false, List, [], ◌∷◌, replicate, Some, None, Option, slice_index_or, slice_set}
+use Rattle.std.specs.Prelude.{ℕ, Bool, true, false, List, replicate, Some, None, Option, slice_index_or, slice_set}
 use Rattle.text.specs.declared.token.Placed.{Placed}
 use Rattle.names.specs.declared.kinds.Source.{Source}
 use Rattle.names.specs.declared.kinds.PixelFormat.{PixelFormat}

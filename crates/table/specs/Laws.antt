@@ -4,7 +4,6 @@ use Rattle.text.specs.declared.fault.TextFault.{TextFault}
 use Rattle.text.specs.declared.fault.TextFault.TheVariants.{TooLong}
 use Rattle.text.specs.Limits.{most_bytes}
 use Rattle.text.specs.Machine.{outcome}
-use Rattle.table.specs.declared.record.Record.{Record}
 use Rattle.table.specs.declared.fault.TableFault.TheVariants.{Text, Form, TooHeavy}
 use Rattle.table.specs.declared.fault.FormRule.{FormRule}
 use Rattle.table.specs.Limits.{max_weight}

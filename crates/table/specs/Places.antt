@@ -1,5 +1,5 @@
 -- The place record on going into an object and out again.
-use Rattle.std.specs.Prelude.{◌≡◌, ℕ, Some, None, Option, slice_set}
+use Rattle.std.specs.Prelude.{ℕ, Some, Option, slice_set}
 use Rattle.table.specs.declared.level.Level.{Level}
 use Rattle.table.specs.declared.place.Place.{Place}
 use Rattle.table.specs.Levels.{level_code}

@@ -1,5 +1,5 @@
 -- What each step at the object that is being read does, and how it is refused.
-use Rattle.std.specs.Prelude.{◌≡◌, ℕ, Bool, true, false, List, Some, None, Ok, Err, Option, Result}
+use Rattle.std.specs.Prelude.{◌≡◌, ℕ, true, false, List, Some, None, Ok, Err, Option, Result}
 use Rattle.text.specs.declared.token.Placed.{Placed}
 use Rattle.table.specs.declared.keys.Key.{Key}
 use Rattle.table.specs.declared.level.Level.{Level}

@@ -1,5 +1,5 @@
 -- What a text says: the task's records, or the fault that comes first.
-use Rattle.std.specs.Prelude.{◌≡◌, ℕ, ◌≤◌, min, Bool, true, false, List, [], ◌∷◌, length, take, Ok, Err, Result, nat_le}
+use Rattle.std.specs.Prelude.{◌≡◌, ℕ, ◌≤◌, min, Bool, true, false, List, length, take, Ok, Err, Result, nat_le}
 use Rattle.text.specs.declared.fault.TextFault.{TextFault}
 use Rattle.text.specs.Machine.{tape, outcome}
 use Rattle.table.specs.declared.record.Record.{Record}

@@ -1,8 +1,8 @@
 -- What each call that reads a part of a task does: to the text that is left, to the form, and to the table.
-use Rattle.std.specs.Prelude.{◌≡◌, ℕ, ◌+◌, ◌-◌, ◌^◌, ◌<◌, ◌≤◌, min, Bool, true, false, List, [], ◌∷◌, length, Some, None, Ok, Err, Option, Result, ◌==◌, slice_index_or, slice_set}
+use Rattle.std.specs.Prelude.{◌≡◌, ℕ, ◌+◌, ◌-◌, ◌^◌, ◌<◌, ◌≤◌, min, Bool, true, false, List, ◌∷◌, length, Some, None, Ok, Err, Option, Result, ◌==◌, slice_index_or, slice_set}
 use Rattle.text.specs.declared.reader.Reader.{Reader}
 use Rattle.text.specs.declared.fault.TextFault.{TextFault}
-use Rattle.text.specs.Machine.{Frame, value, members, Tape, ending, outcome}
+use Rattle.text.specs.Machine.{Frame, value, members, ending, outcome}
 use Rattle.text.specs.Ahead.{ahead, Stack}
 use Rattle.table.specs.declared.level.Level.{Level}
 use Rattle.table.specs.declared.keys.Key.{Key}

@@ -1,7 +1,7 @@
 -- What an entry brings, in the words of the catalogue and of the state.
-use Rattle.std.proofs.Common.{◌≡◌, ℕ, ◌+◌, ◌-◌, ◌≤◌, Bool, true, false, cond, not, ◌&&◌, ◌||◌, leb, List, [], ◌∷◌, ◌++◌, length, is_some, Some, None, Ok, Err, Option, unwrap_or, sym, refl, ap, ◌∙◌, subst, inl, inr, arith}
+use Rattle.std.proofs.Common.{◌≡◌, ◌+◌, ◌-◌, ◌≤◌, Bool, true, false, cond, not, ◌&&◌, ◌||◌, leb, List, [], ◌∷◌, ◌++◌, length, is_some, Some, None, Ok, Option, unwrap_or, sym, refl, ap, ◌∙◌, subst, inl, inr, arith}
 use Rattle.std.proofs.lemmas.List.{length_push}
-use Rattle.std.proofs.lemmas.Bool.{and_parts, and_from, or_left, or_right, or_cases, cases_Bool, cond-true, cond-false, both_ways, not-false, eq-eqb}
+use Rattle.std.proofs.lemmas.Bool.{and_from, or_left, or_right, or_cases, cases_Bool, cond-true, cond-false, both_ways, not-false, eq-eqb}
 use Rattle.names.specs.declared.kinds.Source.{Source}
 use Rattle.names.specs.declared.kinds.PixelFormat.{PixelFormat}
 use Rattle.names.specs.declared.kinds.Word.{Word}
@@ -10,8 +10,8 @@ use Rattle.names.specs.declared.kinds.Value.TheVariants as values
 use Rattle.names.specs.Codes.{format_code}
 use Rattle.names.specs.Same.{same_source, same_format}
 use Rattle.scanner.specs.declared.point.Point.{Point}
-use Rattle.scanner.specs.Meaning.{Catalogue, State, same_point}
-use Rattle.scanner.proofs.Sames.{source_eq, point_eq, pair_refl}
+use Rattle.scanner.specs.Meaning.{Catalogue, same_point}
+use Rattle.scanner.proofs.Sames.{source_eq, point_eq}
 use Rattle.scanners.specs.declared.range.Range.{Range}
 use Rattle.scanners.specs.declared.values.Values.{Values}
 use Rattle.scanners.specs.declared.values.Values.TheVariants as kinds
@@ -22,12 +22,11 @@ use Rattle.scanners.proofs.Searches.{any_push}
 use Rattle.table_scanner.specs.declared.entry.Pair.{Pair}
 use Rattle.table_scanner.specs.declared.entry.Setting.{Setting}
 use Rattle.table_scanner.specs.declared.entry.Offer.{Offer}
-use Rattle.table_scanner.specs.declared.fill.Fill.{Fill}
 use Rattle.table_scanner.specs.Lookup.{found}
-use Rattle.table_scanner.specs.Entries.{of_source, is_pair, at_point, offering, Anchored, listed_catalogue, listed_state}
+use Rattle.table_scanner.specs.Entries.{of_source, is_pair, at_point, offering, listed_catalogue, listed_state}
 use Rattle.table_scanner.specs.Bounds.{most_entries}
 use Rattle.table_scanner.specs.Device.{Device, start}
-use Rattle.table_scanner.specs.Filling.{Change, new_source, new_format, new_attribute, new_range, new_word, new_home, offer_of, is_word, ranges, missing, already, entries_of, with_pair, fault_of, unless_fault, carried_out, changed, after_call, read, all_given, Fills, Lawful, FillingKeepsTheLaws}
+use Rattle.table_scanner.specs.Filling.{Change, new_source, new_format, new_attribute, new_range, new_word, new_home, offer_of, is_word, ranges, missing, already, entries_of, with_pair, fault_of, unless_fault, carried_out, changed, after_call, read, Fills, Lawful, FillingKeepsTheLaws}
 use Rattle.table_scanner.specs.Lookups.{found_new, found_old, any_old}
 
 -- a call that no fault stops

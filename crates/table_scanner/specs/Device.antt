@@ -1,5 +1,5 @@
 -- A table scanner by its meaning alone: what it offers, how it stands, and how many entries it was given.
-use Rattle.std.specs.Prelude.{ℕ, ◌+◌, ◌-◌, Bool, true, false, cond, ◌&&◌, length, None, vec_items}
+use Rattle.std.specs.Prelude.{ℕ, ◌+◌, ◌-◌, false, ◌&&◌, length, None, vec_items}
 use Rattle.names.specs.declared.kinds.Source.{Source}
 use Rattle.names.specs.declared.kinds.PixelFormat.{PixelFormat}
 use Rattle.names.specs.Same.{same_source, same_format}

@@ -1,5 +1,5 @@
 -- What lists of pairs, settings and offers say of a catalogue and of a state.
-use Rattle.std.specs.Prelude.{◌≡◌, Bool, true, false, ◌&&◌, List, is_some}
+use Rattle.std.specs.Prelude.{◌≡◌, Bool, true, false, ◌&&◌, List}
 use Rattle.std.specs.Option.{unwrap_or}
 use Rattle.names.specs.declared.kinds.Source.{Source}
 use Rattle.names.specs.declared.kinds.PixelFormat.{PixelFormat}

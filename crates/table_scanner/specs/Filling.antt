@@ -1,15 +1,14 @@
 -- What filling calls do, in the words of the catalogue and of the state.
-use Rattle.std.specs.Prelude.{◌≡◌, ℕ, ◌+◌, Bool, true, false, cond, not, ◌&&◌, ◌||◌, List, [], ◌∷◌, ℤ, is_some, is_ok, Some, None, Option, Result, nat_le, unsigned_abs}
+use Rattle.std.specs.Prelude.{◌≡◌, ℕ, ◌+◌, Bool, true, false, cond, not, ◌&&◌, ◌||◌, List, [], ◌∷◌, ℤ, is_some, Some, None, Option, Result, nat_le, unsigned_abs}
 use Rattle.names.specs.declared.kinds.Source.{Source}
 use Rattle.names.specs.declared.kinds.PixelFormat.{PixelFormat}
-use Rattle.names.specs.declared.kinds.Attribute.{Attribute}
 use Rattle.names.specs.declared.kinds.Word.{Word}
 use Rattle.names.specs.declared.kinds.Value.{Value}
 use Rattle.names.specs.declared.kinds.Value.TheVariants as values
 use Rattle.names.specs.Numbers.{source_numbered, format_numbered, attribute_numbered, word_numbered}
 use Rattle.names.specs.Same.{same_source, same_format, same_word}
 use Rattle.scanner.specs.declared.point.Point.{Point}
-use Rattle.scanner.specs.Meaning.{Catalogue, State, enabling, setting, same_point}
+use Rattle.scanner.specs.Meaning.{Catalogue, State, setting, same_point}
 use Rattle.scanners.specs.declared.fault.FillFault.{FillFault}
 use Rattle.scanners.specs.Faults.{first_fault, told}
 use Rattle.scanners.specs.Ranges.{in_range, is_range}

@@ -1,5 +1,5 @@
 -- What enable, set and reset leave of the lists.
-use Rattle.std.specs.Prelude.{◌≡◌, ℕ, ◌<◌, ◌≤◌, Bool, true, false, cond, ◌&&◌, ◌||◌, List, [], ◌∷◌, ◌++◌, map, length, get_or, take, drop, set, is_some, Some, None, vec_items, Vec, slice_index_or, slice_set, refl}
+use Rattle.std.specs.Prelude.{◌≡◌, ℕ, ◌≤◌, Bool, true, false, cond, ◌&&◌, List, [], ◌∷◌, ◌++◌, map, length, get_or, take, drop, is_some, Some, None, vec_items, Vec, slice_index_or, slice_set, refl}
 use Rattle.std.proofs.Common.{sym, ap, subst, ◌∙◌, inl, inr}
 use Rattle.std.specs.Vec.{with_items}
 use Rattle.std.specs.Option.{unwrap_or}
@@ -12,13 +12,13 @@ use Rattle.names.specs.Codes.{format_code}
 use Rattle.names.specs.Same.{same_source, same_format}
 use Rattle.scanner.specs.declared.point.Point.{Point}
 use Rattle.scanner.specs.Meaning.{same_point}
-use Rattle.scanner.proofs.Sames.{source_eq, format_eq, point_eq, point_refl, pair_refl}
+use Rattle.scanner.proofs.Sames.{source_eq, format_eq, point_eq}
 use Rattle.scanners.specs.Search.{FirstOf, NoneBefore, any_of}
 use Rattle.table_scanner.specs.declared.entry.Pair.{Pair}
 use Rattle.table_scanner.specs.declared.entry.Setting.{Setting}
 use Rattle.table_scanner.specs.Lookup.{found}
-use Rattle.table_scanner.specs.Entries.{of_source, is_pair, at_point, off, restored}
-use Rattle.table_scanner.specs.Lookups.{found_none, found_at, found_any, found_set, found_set_off, found_set_at, any_set, found_map, any_map}
+use Rattle.table_scanner.specs.Entries.{of_source, is_pair, at_point, off}
+use Rattle.table_scanner.specs.Lookups.{found_none, found_at, found_any, found_set, found_set_off, found_set_at, any_set}
 
 -- what the search found, read off
 pub part_some : {X Y : Type 0} (test : X → Bool) (part : X → Y) (xs ys : List X) (i : ℕ) (x : X) → ys ≡ xs → FirstOf test ys (Some i) → x ≡ slice_index_or xs i x → Some (part x) ≡ found test part xs

@@ -1,5 +1,5 @@
 -- Words and integers of a canonical text are found again, and a fold over its tape is one over its value.
-use Rattle.std.proofs.Common.{◌≡◌, ℕ, zero, suc, ◌+◌, ◌-◌, ◌^◌, ◌<◌, ◌≤◌, Bool, true, false, cond, not, ◌&&◌, eqb, leb, List, [], ◌∷◌, ◌++◌, length, get_or, take, drop, ℤ, pos, negsuc, Some, None, Ok, Err, decimal, Option, sym, refl, ap, ◌∙◌, subst, ⊎_elim, add-one, arith}
+use Rattle.std.proofs.Common.{◌≡◌, ℕ, zero, suc, ◌+◌, ◌-◌, ◌^◌, ◌<◌, ◌≤◌, Bool, true, false, ◌&&◌, eqb, leb, List, [], ◌∷◌, ◌++◌, length, get_or, take, drop, ℤ, pos, negsuc, Some, None, Err, decimal, sym, refl, ap, ◌∙◌, add-one, arith}
 use Rattle.std.specs.Fmt.{signed_decimal}
 use Rattle.std.proofs.lemmas.Fmt.{decimal_digit, decimal_nonempty, first_decimal}
 use Rattle.std.proofs.lemmas.List.{drop-drop}
@@ -7,13 +7,12 @@ use Rattle.std.proofs.lemmas.Bool.{cond-true, cond-false}
 use Rattle.std.proofs.lemmas.Bool.Decides.{nat_tests}
 use Rattle.text.specs.declared.fault.TextFault.TheVariants.{Forbidden}
 use Rattle.text.specs.declared.string.Mode.TheVariants.{Plain as Unescaped}
-use Rattle.text.specs.Bytes.{digit, between}
-use Rattle.text.specs.Machine.{Frame, Kind, Tape, value, literal, chars, good, fault, event, ending, step, over, run, tape, begin_object, end_object, begin_array, end_array, name, string, number}
-use Rattle.text.specs.Tree.{Json, Members, Entries, events, member_events, entry_events}
+use Rattle.text.specs.Machine.{Frame, Kind, Tape, value, literal, good, event, ending, step, over, run, begin_object, end_object, begin_array, end_array, name, string, number}
+use Rattle.text.specs.Tree.{events, member_events, entry_events}
 use Rattle.text.specs.Parts.{extent, value_length, string_part, number_part}
-use Rattle.text.specs.Strings.{units, paired, joined, stands, high, low}
-use Rattle.text.specs.Numbers.{decimal as read-on, magnitude, up_to, negated, positive, integer_of}
-use Rattle.text.specs.Canonical.{Plain, Fields, Items, word, integer, object_of, array_of, no_field, a_field, no_item, an_item, written_on, fields_on, items_on, written, past, past_value, past_fields, past_items, placed, placed_fields, placed_items, letter, Letters, Within32, Writable, number_ends}
+use Rattle.text.specs.Strings.{units, paired, joined, high, low}
+use Rattle.text.specs.Numbers.{decimal as read-on, up_to, negated, positive, integer_of}
+use Rattle.text.specs.Canonical.{Plain, Fields, Items, word, integer, object_of, array_of, no_field, a_field, no_item, an_item, written_on, fields_on, items_on, written, past, past_value, past_fields, past_items, placed, placed_fields, placed_items, Letters, Within32, number_ends}
 use Rattle.text.specs.ReadsBack.{WordsBack, IntegersBack, Folding, fold_tape, fold_value, fold_fields, fold_items, FoldsBack}
 use Rattle.text.proofs.Extents.{extent_run}
 use Rattle.text.proofs.Decimal.{magnitude_start, decimal_back}

@@ -1,9 +1,9 @@
 -- What single frames do, and the trees that values make.
-use Rattle.std.proofs.Common.{◌≡◌, ℕ, zero, suc, ◌-◌, ◌<◌, Bool, true, false, cond, eqb, ◌⊎◌, List, [], ◌∷◌, sym, refl, ap, ◌∙◌, inl, inr, sub-one, arith}
+use Rattle.std.proofs.Common.{◌≡◌, ℕ, zero, suc, ◌-◌, ◌<◌, Bool, true, false, cond, eqb, ◌⊎◌, List, [], ◌∷◌, refl, ap, ◌∙◌, inl, inr, sub-one, arith}
 use Rattle.std.proofs.lemmas.Bool.{cond-true, cond-false}
 use Rattle.std.proofs.lemmas.Bool.Decides.{nat_tests}
 use Rattle.text.specs.Bytes.{white, digit}
-use Rattle.text.specs.Machine.{Frame, Step, Tape, ending, event, name, go, says, forbidden, too_deep, step, value, member, members, colon, entries, first, after, digits, whole, number, begin_object, begin_array}
+use Rattle.text.specs.Machine.{Frame, Tape, ending, event, name, go, says, forbidden, too_deep, step, value, member, members, colon, entries, first, after, digits, whole, number, begin_object, begin_array}
 use Rattle.text.specs.Tree.{Json, Members, Entries, scalar, object, array, no_member, one_member, no_entry, one_entry, events, member_events, entry_events, Proper, ProperMembers, ProperEntries}
 use Rattle.text.specs.Ahead.{Skips}
 

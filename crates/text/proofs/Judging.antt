@@ -4,11 +4,11 @@ use Rattle.std.proofs.lemmas.Bool.{cond-true, cond-false}
 use Rattle.std.proofs.lemmas.Bool.Decides.{nat_tests}
 use Rattle.text.specs.declared.fault.TextFault.{TextFault}
 use Rattle.text.specs.declared.fault.TextFault.TheVariants.{Forbidden, TooDeep, TooLong}
-use Rattle.text.specs.Machine.{Frame, Tape, value, run, tape, outcome, ending, good, fault, event, step, over, ends, go, says, forbidden, too_deep, Step}
+use Rattle.text.specs.Machine.{Frame, value, run, tape, outcome, ending, good, fault, step, over, ends, go, says, forbidden, too_deep, Step}
 use Rattle.text.specs.Grammar.{Text}
 use Rattle.text.specs.Judged.{ForbiddenAt, TooDeepAt, Judged}
 use Rattle.text.proofs.Steps.{run_go, run_says, run_forbidden, run_deep}
-use Rattle.text.proofs.Stacks.{Reachable, w_value, rest_none, up, up_frame, forbidden_from, too_deep_from}
+use Rattle.text.proofs.Stacks.{w_value, rest_none, up, up_frame, forbidden_from, too_deep_from}
 use Rattle.text.proofs.Sound.{sound}
 use Rattle.text.proofs.Complete.{complete, more_levels}
 use Rattle.text.specs.Limits.{most_bytes, most_levels}

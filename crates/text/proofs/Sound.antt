@@ -1,12 +1,11 @@
 -- What the machine reads, the grammar has: each stack stands for a language, and each byte keeps to it.
-use Rattle.std.proofs.Common.{◌≡◌, ℕ, zero, suc, ◌+◌, Bool, true, false, cond, ◌||◌, eqb, leb, List, [], ◌∷◌, Ok, Err, Result, sym, refl, ap, ◌∙◌, subst, arith}
-use Rattle.std.proofs.lemmas.Bool.{cond-true, cond-false}
+use Rattle.std.proofs.Common.{◌≡◌, ℕ, zero, suc, Bool, true, false, cond, ◌||◌, eqb, leb, List, [], ◌∷◌, Ok, sym, refl, ap, ◌∙◌, subst, arith}
+use Rattle.std.proofs.lemmas.Bool.{cond-false}
 use Rattle.std.proofs.lemmas.Bool.Decides.{nat_tests}
-use Rattle.text.specs.declared.fault.TextFault.{TextFault}
-use Rattle.text.specs.declared.fault.TextFault.TheVariants.{Forbidden, TooDeep}
+use Rattle.text.specs.declared.fault.TextFault.TheVariants.{Forbidden}
 use Rattle.text.specs.Bytes.{between, white, digit, hex_digit, exponent_mark, sign_mark, short_escape}
 use Rattle.text.specs.Machine.{Kind, Frame, Part, Step, whole, fraction, exponent, value, first, digits, digit1, sign, after, chars, escape, hex, tail, literal, member, colon, members, entries, go, says, forbidden, too_deep, good, fault, ending, tails, hexes, letters, lead, opens, begins, follows, step, over, ends, run, begin_object, begin_array}
-use Rattle.text.specs.Grammar.{Ws, ws_none, ws_more, Mark, mark, Digits, digits_none, digits_more, Digits1, digits1, Minus, minus_none, minus, Int, int_zero, int_more, Frac, frac_none, frac, Sign, sign_none, sign as sign-some, Exp, exp_none, exp, Number, number as a-number, Hexes, hexes_none, hexes_more, Tails, tails_none, tails_more, Wide, wide_2, wide_e0, wide_e1, wide_ed, wide_ee, wide_f0, wide_f1, wide_f4, Char, ascii, wide, escaped, escaped_hex, Chars, chars_none, chars_more, Str, str, Value, is_false, is_null, is_true, is_object, is_array, is_number, is_string, Object, object_none, object_some, Members, members_end, members_more, Member, member as a-member, Array, array_none, array_some, Entries, entries_end, entries_more, Text, text}
+use Rattle.text.specs.Grammar.{Ws, ws_none, ws_more, Mark, mark, Digits, digits_none, digits_more, Digits1, digits1, minus_none, minus, Int, int_zero, int_more, Frac, frac_none, frac, Sign, sign_none, sign as sign-some, Exp, exp_none, exp, number as a-number, Hexes, hexes_none, hexes_more, Tails, tails_none, tails_more, wide_2, wide_e0, wide_e1, wide_ed, wide_ee, wide_f0, wide_f1, wide_f4, ascii, wide, escaped, escaped_hex, Chars, chars_none, chars_more, str, Value, is_false, is_null, is_true, is_object, is_array, is_number, is_string, Object, object_none, object_some, Members, members_end, members_more, Member, member as a-member, Array, array_none, array_some, Entries, entries_end, entries_more, Text, text}
 use Rattle.text.proofs.Steps.{run_go, run_says, run_forbidden, run_deep}
 
 -- what may follow a part of a number

@@ -1,11 +1,10 @@
 -- The stacks that can come: each of them some text brings to a good end, and one more level changes nothing but the depth.
-use Rattle.std.proofs.Common.{◌≡◌, ℕ, zero, suc, ◌+◌, ◌<◌, ◌≤◌, Bool, true, false, cond, eqb, leb, List, [], ◌∷◌, ◌++◌, length, take, Ok, Err, Result, sym, refl, ap, ◌∙◌, subst, arith}
+use Rattle.std.proofs.Common.{◌≡◌, ℕ, zero, suc, ◌+◌, ◌<◌, ◌≤◌, Bool, true, false, cond, eqb, leb, List, [], ◌∷◌, ◌++◌, length, take, Ok, Err, sym, refl, ap, ◌∙◌, subst, arith}
 use Rattle.std.proofs.lemmas.Bool.{cond-true, cond-false}
 use Rattle.std.proofs.lemmas.Bool.Decides.{nat_tests}
-use Rattle.text.specs.declared.fault.TextFault.{TextFault}
 use Rattle.text.specs.declared.fault.TextFault.TheVariants.{Forbidden, TooDeep}
 use Rattle.text.specs.Bytes.{between, white, digit, hex_digit, exponent_mark, sign_mark, short_escape}
-use Rattle.text.specs.Machine.{Kind, Frame, Part, Step, Tape, whole, fraction, exponent, value, first, digits, digit1, sign, after, chars, escape, hex, tail, literal, member, colon, members, entries, go, says, forbidden, too_deep, good, fault, ending, tails, hexes, letters, lead, opens, begins, follows, step, over, ends, run, begin_object, begin_array}
+use Rattle.text.specs.Machine.{Kind, Frame, Part, Step, whole, fraction, exponent, value, first, digits, digit1, sign, after, chars, escape, hex, tail, literal, member, colon, members, entries, go, says, forbidden, too_deep, good, fault, ending, tails, hexes, letters, lead, opens, begins, follows, step, over, run, begin_object, begin_array}
 use Rattle.text.proofs.Steps.{run_go, run_says, run_forbidden, run_deep}
 
 -- below a value

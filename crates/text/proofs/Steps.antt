@@ -1,5 +1,5 @@
 -- How the contracts of one byte, of none and of a fault are met, and how they join.
-use Rattle.std.proofs.Common.{◌≡◌, ℕ, zero, suc, ◌+◌, ◌-◌, ◌<◌, ◌≤◌, Bool, true, false, cond, List, [], ◌∷◌, length, get_or, drop, IsErrAnd, IfOk, Ok, Err, Result, sym, refl, ap, ◌∙◌, ⊎_elim, add-one, sub-one, arith, drop-cons}
+use Rattle.std.proofs.Common.{◌≡◌, ℕ, zero, suc, ◌+◌, ◌-◌, ◌<◌, ◌≤◌, false, List, ◌∷◌, length, get_or, drop, IsErrAnd, IfOk, Ok, Err, Result, sym, refl, ap, ◌∙◌, ⊎_elim, add-one, sub-one, arith, drop-cons}
 use Rattle.std.proofs.lemmas.List.{drop_all}
 use Rattle.std.proofs.lemmas.Bool.{cases_lt, cond-false}
 use Rattle.std.proofs.lemmas.Bool.Decides.{nat_tests}
@@ -7,8 +7,8 @@ use Rattle.text.specs.declared.reader.Reader.{Reader}
 use Rattle.text.specs.declared.fault.TextFault.{TextFault}
 use Rattle.text.specs.declared.fault.TextFault.TheVariants.{Forbidden, TooDeep}
 use Rattle.text.specs.Bytes.{digit}
-use Rattle.text.specs.Machine.{Frame, Part, Kind, chars, digits, after, tail, tails, lead, literal, letters, Step, go, says, forbidden, too_deep, Tape, fault, event, ending, step, over, ends, run}
-use Rattle.text.specs.Ahead.{ahead, here, Inside, Stack, Passed, Onward, Halted, Reads, ReadsTo}
+use Rattle.text.specs.Machine.{Frame, Part, Kind, chars, digits, after, tail, tails, lead, literal, letters, go, says, forbidden, too_deep, Tape, fault, event, ending, step, over, ends, run}
+use Rattle.text.specs.Ahead.{ahead, here, Inside, Stack, Passed, Onward, Halted, Reads}
 
 pub run_go : (b : ℕ) (bs : List ℕ) (i : ℕ) (k l : List Frame) → step k b ≡ go l → run (b ∷ bs) i k ≡ run bs (suc i) l
 unfolding run

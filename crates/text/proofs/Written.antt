@@ -1,12 +1,12 @@
 -- A canonical text through the machine, token by token.
-use Rattle.std.proofs.Common.{◌≡◌, ℕ, zero, suc, ◌+◌, ◌-◌, ◌*◌, ◌/◌, ◌%◌, ◌^◌, ◌<◌, ◌≤◌, Bool, true, false, cond, not, ◌||◌, eqb, leb, ◌⊎◌, List, [], ◌∷◌, ◌++◌, length, get_or, take, drop, ℤ, pos, negsuc, Ok, Err, decimal, sym, refl, ap, ◌∙◌, subst, inl, inr, ⊎_elim, arith}
+use Rattle.std.proofs.Common.{◌≡◌, ℕ, zero, suc, ◌+◌, ◌%◌, ◌^◌, ◌<◌, Bool, true, false, ◌⊎◌, List, [], ◌∷◌, ◌++◌, length, get_or, ℤ, pos, negsuc, decimal, refl, ap, ◌∙◌, inl, inr, arith}
 use Rattle.std.specs.Fmt.{signed_decimal}
 use Rattle.std.proofs.lemmas.Fmt.{decimal_by_steps, decimal_digit, decimal_nonempty, first_decimal}
-use Rattle.std.proofs.lemmas.Bool.{cond-true, cond-false, cases_lt}
+use Rattle.std.proofs.lemmas.Bool.{cond-true}
 use Rattle.std.proofs.lemmas.Bool.Decides.{nat_tests}
-use Rattle.text.specs.Bytes.{between, white, digit, exponent_mark}
-use Rattle.text.specs.Machine.{Frame, Part, Kind, Tape, whole, fraction, exponent, value, first, digits, digit1, after, chars, member, colon, members, entries, go, says, good, event, ending, step, over, run, tape, outcome, begin_object, end_object, begin_array, end_array, name, string, number}
-use Rattle.text.specs.Tree.{Json, Members, Entries, events, member_events, entry_events}
+use Rattle.text.specs.Bytes.{between, digit}
+use Rattle.text.specs.Machine.{Frame, Part, whole, value, first, digits, after, chars, colon, members, entries, go, says, good, event, ending, step, over, run, tape, begin_object, end_object, begin_array, end_array, name, string, number}
+use Rattle.text.specs.Tree.{events, member_events, entry_events}
 use Rattle.text.specs.Canonical.{Plain, Fields, Items, word, integer, object_of, array_of, no_field, a_field, no_item, an_item, written_on, fields_on, items_on, written, past, past_value, past_fields, past_items, placed, placed_fields, placed_items, letter, Letters, Within32, Writable, WritableFields, WritableItems, number_ends}
 use Rattle.text.specs.ReadsBack.{ReadsBack}
 use Rattle.text.proofs.Steps.{run_go, run_says, run_like}

@@ -3,7 +3,6 @@ use Rattle.std.specs.Prelude.{◌≡◌, ℕ, ◌+◌, ◌-◌, ◌<◌, ◌≤�
 use Rattle.std.specs.Borrow.{Bor}
 use Rattle.text.specs.declared.reader.Reader.{Reader}
 use Rattle.text.specs.declared.fault.TextFault.{TextFault}
-use Rattle.text.specs.declared.fault.TextFault.TheVariants.{Forbidden, TooDeep, TooLong}
 use Rattle.text.specs.declared.scalar.Lead.{Lead}
 use Rattle.text.specs.declared.token.Placed.{Placed}
 use Rattle.text.specs.declared.token.Token.{Token}
@@ -11,7 +10,7 @@ use Rattle.text.specs.declared.token.Token.TheVariants.{Object, Array, String, N
 use Rattle.text.specs.declared.token.Member.{Member}
 use Rattle.text.specs.declared.token.Member.TheVariants.{Named, End}
 use Rattle.text.specs.Bytes.{white}
-use Rattle.text.specs.Machine.{Frame, value, letters, member, members, entries, tail, chars, Kind, begin_object, begin_array, end_object, end_array, name, string, number, literal_true, literal_false, literal_null, Step, go, says, forbidden, step, Tape, good, event, ending, run}
+use Rattle.text.specs.Machine.{Frame, value, letters, members, entries, tail, chars, Kind, begin_object, begin_array, end_object, end_array, name, string, number, literal_true, literal_false, literal_null, Step, go, says, forbidden, step, Tape, good, event, ending, run}
 use Rattle.text.specs.Tree.{Json, Members, Entries, events, member_events, entry_events, Proper, ProperMembers, ProperEntries}
 use Rattle.text.specs.Parts.{scalar_length, value_length, string_part, number_part}
 

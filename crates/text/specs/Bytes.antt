@@ -1,5 +1,5 @@
 -- The classes of bytes that the rules of RFC 8259 name.
-use Rattle.std.specs.Prelude.{ℕ, Bool, true, false, ◌&&◌, ◌||◌, ◌==◌, nat_le}
+use Rattle.std.specs.Prelude.{ℕ, Bool, ◌&&◌, ◌||◌, ◌==◌, nat_le}
 
 -- from a to b
 abbrev pub between : ℕ → ℕ → ℕ → Bool

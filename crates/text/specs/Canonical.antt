@@ -1,7 +1,7 @@
 -- The canonical text of a value: no white space, plain letters, integers of 32 bits.
 use Rattle.std.specs.Prelude.{◌≡◌, ℕ, zero, suc, ◌≤◌, Bool, true, false, not, ◌&&◌, ◌||◌, List, [], ◌∷◌, ◌++◌, ℤ, pos, negsuc, ◌==◌, nat_le}
 use Rattle.std.specs.Fmt.{signed_decimal}
-use Rattle.text.specs.Bytes.{between, digit, exponent_mark}
+use Rattle.text.specs.Bytes.{digit, exponent_mark}
 use Rattle.text.specs.Machine.{string, number}
 use Rattle.text.specs.Tree.{Json, Members, Entries, scalar, no_member, one_member, no_entry, one_entry}
 

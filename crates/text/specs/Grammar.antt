@@ -1,6 +1,6 @@
 -- The grammar of JSON after RFC 8259, and of UTF-8 after RFC 3629. A relation between two texts t and u says that
 -- t is what it names, followed by u; so a rule that puts parts in a row goes from text to text.
-use Rattle.std.specs.Prelude.{◌≡◌, ℕ, zero, suc, Bool, true, ◌||◌, List, [], ◌∷◌, ◌++◌}
+use Rattle.std.specs.Prelude.{◌≡◌, ℕ, zero, suc, true, ◌||◌, List, [], ◌∷◌}
 use Rattle.text.specs.Bytes.{between, white, digit, hex_digit, exponent_mark, sign_mark, short_escape}
 
 -- ws = *( space / tab / line feed / carriage return )

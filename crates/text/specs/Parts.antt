@@ -1,6 +1,6 @@
 -- The part of a text that a scalar token takes up, as a function of the text from the token on.
 use Rattle.std.specs.Prelude.{ℕ, suc, ◌-◌, List, [], ◌∷◌, take, drop}
-use Rattle.text.specs.Machine.{Frame, value, literal, Step, go, says, forbidden, too_deep, step}
+use Rattle.text.specs.Machine.{Frame, value, literal, go, says, forbidden, too_deep, step}
 
 -- how many bytes go on from the stack
 unfoldable pub extent : List ℕ → List Frame → ℕ

@@ -1,5 +1,5 @@
 -- What is written reads back.
-use Rattle.std.specs.Prelude.{◌≡◌, ℕ, zero, suc, ◌≤◌, Bool, true, false, List, [], ◌∷◌, ◌++◌, length, drop, ℤ, Some, Ok}
+use Rattle.std.specs.Prelude.{◌≡◌, ℕ, suc, ◌≤◌, Bool, true, false, List, [], ◌∷◌, ◌++◌, length, drop, ℤ, Some, Ok}
 use Rattle.std.specs.Fmt.{signed_decimal}
 use Rattle.text.specs.Machine.{Kind, Tape, good, fault, event, tape, outcome, begin_object, end_object, begin_array, end_array, name, string, number}
 use Rattle.text.specs.Tree.{events}

@@ -1,5 +1,5 @@
 -- What the bytes between a string's quotes stand for.
-use Rattle.std.specs.Prelude.{◌≡◌, ℕ, ◌+◌, ◌-◌, ◌*◌, ◌%◌, Bool, true, false, cond, ◌&&◌, List, [], ◌∷◌, map, Some, None, Option, ◌==◌, nat_le}
+use Rattle.std.specs.Prelude.{◌≡◌, ℕ, ◌+◌, ◌-◌, ◌*◌, ◌%◌, Bool, true, false, cond, ◌&&◌, List, [], ◌∷◌, Some, None, Option, ◌==◌, nat_le}
 use Rattle.text.specs.declared.string.Mode.{Mode}
 use Rattle.text.specs.declared.string.Mode.TheVariants.{Plain, Backslash, Hex}
 use Rattle.text.specs.Bytes.{between}

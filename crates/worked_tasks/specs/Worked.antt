@@ -1,10 +1,9 @@
 -- Worked tasks on the flatbed, one row each.
-use Rattle.std.specs.Prelude.{◌≡◌, ℕ, Bool, true, false, List, [], ◌∷◌, pos, Some, None, Option}
+use Rattle.std.specs.Prelude.{◌≡◌, ℕ, Bool, true, false, List, [], ◌∷◌, pos, Some, None}
 use Rattle.text.specs.declared.token.Placed.{Placed}
 use Rattle.names.specs.declared.kinds.Source.{Source}
 use Rattle.names.specs.declared.kinds.PixelFormat.{PixelFormat}
 use Rattle.names.specs.declared.kinds.Attribute.{Attribute}
-use Rattle.names.specs.declared.kinds.Value.{Value}
 use Rattle.names.specs.declared.kinds.Value.TheVariants as values
 use Rattle.table.specs.declared.exception.Exception.{Exception}
 use Rattle.table.specs.declared.exception.Exception.TheVariants.{Fail, Ignore, NextStream}
@@ -12,16 +11,14 @@ use Rattle.table.specs.declared.level.Level.{Level}
 use Rattle.table.specs.declared.place.Place.{Place}
 use Rattle.table.specs.declared.record.Head.{Head}
 use Rattle.table.specs.declared.record.Verb.TheVariants.{Other}
-use Rattle.table.specs.declared.record.Wanted.{Wanted}
 use Rattle.table.specs.declared.record.Wanted.TheVariants.{Named}
 use Rattle.table.specs.Places.{entered}
-use Rattle.table.specs.Task.{ValueObject, AttributeObject, FormatObject, SourceObject, StreamObject, ActionObject}
+use Rattle.table.specs.Task.{ValueObject, SourceObject, StreamObject, ActionObject}
 use Rattle.scanner.specs.declared.plan.Item.{Item}
 use Rattle.scanner.specs.declared.point.Point.{Point}
 use Rattle.scanner.specs.Meaning.{Catalogue, State, powered}
 use Rattle.scanner.specs.Plan.{plan_put}
 use Rattle.scanners.specs.Flatbed.{flatbed_catalogue}
-use Rattle.negotiation.specs.declared.trouble.Rejection.{Rejection}
 use Rattle.negotiation.specs.Endings.{failing, ran_out}
 use Rattle.negotiation.specs.Verdicts.{Outcome, unchanged, planned, rejected, OneVerdict}
 

@@ -1,4 +1,4 @@
-use Rattle.std.proofs.Common.{◌≡◌, List, [], ◌∷◌, refl, subst}
+use Rattle.std.proofs.Common.{◌≡◌, List, refl, subst}
 use Rattle.scanners.specs.Flatbed.{flatbed_catalogue}
 use Rattle.negotiation.specs.Troubles.{object_troubles}
 use Rattle.negotiation.specs.Plans.{within}

@@ -1,4 +1,4 @@
-use Rattle.std.proofs.Common.{◌≡◌, suc, ◌+◌, ◌<◌, ◌≤◌, length, get_or, sym, refl, ap, ◌∙◌, add-one, arith}
+use Rattle.std.proofs.Common.{◌≡◌, suc, ◌+◌, ◌≤◌, length, get_or, sym, refl, ◌∙◌, add-one, arith}
 use Rattle.names.proofs.Looking.{name_is, name_none, part_within, part_none}
 use Rattle.names.proofs.lookup.name_at.Goals as goal
 use Rattle.names.proofs.lookup.name_at.Goals.{then-i-starts-via-then-i-starts, then-i-starts-via-else-i-starts+then-i-starts-2}

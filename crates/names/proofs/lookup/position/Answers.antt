@@ -1,6 +1,6 @@
-use Rattle.std.proofs.Common.{◌≡◌, ◌+◌, ◌-◌, ◌<◌, ◌≤◌, true, false, [], length, get_or, drop, sym, refl, ap, ◌∙◌, arith}
+use Rattle.std.proofs.Common.{◌≡◌, ◌+◌, ◌-◌, ◌<◌, ◌≤◌, true, false, [], length, get_or, drop, sym, ap, ◌∙◌, arith}
 use Rattle.text.specs.Strings.{stands, matching}
-use Rattle.names.specs.Names.{names_of, name_at, place}
+use Rattle.names.specs.Names.{names_of, place}
 use Rattle.names.proofs.Looking.{further, tested, names_count, first_name, next_name, no_name, from_first}
 use Rattle.names.proofs.lookup.position.Goals as goal
 

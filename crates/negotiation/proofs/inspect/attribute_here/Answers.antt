@@ -1,4 +1,4 @@
-use Rattle.std.proofs.Common.{◌≡◌, List, [], ◌∷◌, ◌++◌, Result, sym, refl, ap, ◌∙◌, subst, append-nil}
+use Rattle.std.proofs.Common.{◌≡◌, List, Result, sym, refl, ap, ◌∙◌, subst, append-nil}
 use Rattle.table.specs.declared.exception.Exception.{Exception}
 use Rattle.table.specs.declared.place.Place.{Place}
 use Rattle.scanner.specs.declared.plan.Item.{Item}

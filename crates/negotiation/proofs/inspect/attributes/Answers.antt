@@ -1,4 +1,4 @@
-use Rattle.std.proofs.Common.{◌≡◌, ◌+◌, List, [], ◌∷◌, drop, Option, refl, ap, ◌∙◌}
+use Rattle.std.proofs.Common.{◌+◌, List, drop, Option, refl, ap, ◌∙◌}
 use Rattle.text.specs.declared.token.Placed.{Placed}
 use Rattle.names.specs.declared.kinds.Attribute.{Attribute}
 use Rattle.names.specs.declared.kinds.PixelFormat.{PixelFormat}
@@ -7,7 +7,6 @@ use Rattle.table.specs.declared.exception.Exception.{Exception}
 use Rattle.table.specs.declared.place.Place.{Place}
 use Rattle.table.specs.declared.record.Head.{Head}
 use Rattle.table.specs.declared.record.Record.{Record}
-use Rattle.table.specs.declared.record.Wanted.{Wanted}
 use Rattle.table.specs.Views.{attributes_in, attribute_of}
 use Rattle.scanner.specs.declared.plan.Item.{Item}
 use Rattle.scanner.specs.Meaning.{Catalogue}

@@ -1,4 +1,4 @@
-use Rattle.std.proofs.Common.{refl, rules}
+use Rattle.std.proofs.Common.{rules}
 use Rattle.table.specs.declared.level.Level.TheVariants.{PixelFormat}
 use Rattle.table.specs.Views.{format_of}
 use Rattle.table.proofs.Leaving.{left_again}

@@ -1,4 +1,4 @@
-use Rattle.std.proofs.Common.{◌≡◌, ◌≤◌, List, [], ◌∷◌, ◌++◌, length, refl, ap, ◌∙◌, arith}
+use Rattle.std.proofs.Common.{◌≡◌, ◌≤◌, [], ◌∷◌, ◌++◌, length, ap, ◌∙◌, arith}
 use Rattle.names.specs.declared.kinds.PixelFormat.{PixelFormat}
 use Rattle.scanner.specs.declared.plan.Item.{Item}
 use Rattle.negotiation.specs.Plans.{home_pair, plan_room, fitted}

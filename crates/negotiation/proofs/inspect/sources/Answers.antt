@@ -1,4 +1,4 @@
-use Rattle.std.proofs.Common.{◌≡◌, ◌+◌, List, [], ◌∷◌, drop, Option, refl, ap, ◌∙◌}
+use Rattle.std.proofs.Common.{◌+◌, List, drop, Option, refl, ap, ◌∙◌}
 use Rattle.text.specs.declared.token.Placed.{Placed}
 use Rattle.names.specs.declared.kinds.Source.{Source}
 use Rattle.table.specs.declared.exception.Exception.{Exception}

@@ -1,4 +1,4 @@
-use Rattle.std.proofs.Common.{◌≡◌, [], ◌∷◌, rules}
+use Rattle.std.proofs.Common.{[], ◌∷◌, rules}
 use Rattle.table.specs.declared.level.Level.TheVariants.{Value}
 use Rattle.table.proofs.Leaving.{left_again}
 use Rattle.negotiation.specs.Troubles.{trouble_at}

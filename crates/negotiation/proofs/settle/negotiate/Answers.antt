@@ -1,7 +1,7 @@
-use Rattle.std.proofs.Common.{◌≡◌, [], drop, Ok, Err, refl, ap, ◌∙◌}
+use Rattle.std.proofs.Common.{◌∙◌}
 use Rattle.std.proofs.lemmas.List.{at_drop_all}
 use Rattle.table.specs.Views.{actions_in}
-use Rattle.negotiation.specs.declared.settle.Verdict.TheVariants.{Configured, Unchanged}
+use Rattle.negotiation.specs.declared.settle.Verdict.TheVariants.{Unchanged}
 use Rattle.negotiation.proofs.Steps.{step_at}
 use Rattle.negotiation.proofs.Judging.{no_verdict, ok_same, acted_to, judged_to, judge_over, judge_end, judge_planned, judge_unchanged, judge_rejected}
 use Rattle.negotiation.proofs.Telling.{negotiated}

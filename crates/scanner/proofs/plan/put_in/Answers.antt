@@ -1,6 +1,6 @@
 use Rattle.std.proofs.Common.{◌≡◌, sym, refl, ap, ◌∙◌, subst}
 use Rattle.scanner.specs.Meaning.{powered}
-use Rattle.scanner.specs.Plan.{items_put, offered_of, plan_put, AllOffered, InForce}
+use Rattle.scanner.specs.Plan.{items_put, offered_of, plan_put, InForce}
 use Rattle.scanner.proofs.Sames.{whole}
 use Rattle.scanner.proofs.Plans.{going_more, going_all, in_force_lem, all_offered}
 use Rattle.scanner.proofs.plan.put_in.Goals as goal

@@ -1,22 +1,22 @@
-use Rattle.std.proofs.Common.{◌≡◌, ℕ, ◌+◌, ◌-◌, ◌<◌, ◌≤◌, Bool, true, false, eqb, ltb, List, [], ◌∷◌, length, drop, Some, None, sym, refl, ap, ◌∙◌, subst, arith, rules}
+use Rattle.std.proofs.Common.{◌≡◌, ℕ, ◌-◌, ◌<◌, ◌≤◌, true, false, ltb, ◌∷◌, length, drop, sym, refl, ap, ◌∙◌, subst, arith, rules}
 use Rattle.std.proofs.lemmas.Bool.Decides.{nat_tests}
 use Rattle.text.specs.declared.reader.Reader.{Reader}
 use Rattle.text.specs.declared.token.Token.{Token}
-use Rattle.text.specs.Machine.{value, members, entries, begin_array, begin_object, end_array, end_object, name}
-use Rattle.text.specs.Ahead.{Stack, TokenRead, kind_of}
+use Rattle.text.specs.Machine.{value, members, entries, begin_array, begin_object, end_array, name}
+use Rattle.text.specs.Ahead.{TokenRead, kind_of}
 use Rattle.table.specs.declared.level.Level.{Level}
 use Rattle.table.specs.declared.draft.Draft.{Draft}
 use Rattle.table.specs.declared.fault.FormRule.TheVariants.{ArrayElsewhere, WrongKind, Repeated, TooMany}
 use Rattle.table.specs.Levels.{limit}
-use Rattle.table.specs.Drafts.{fresh, with_entries, with_unknown, noted, with_word}
+use Rattle.table.specs.Drafts.{fresh, with_entries, with_unknown}
 use Rattle.text.specs.Strings.{stands}
 use Rattle.text.specs.Parts.{string_part}
 use Rattle.table.specs.Words.{key_spelled, value_meaning}
-use Rattle.table.specs.Form.{Lot, ◌⊕◌, nothing, doing, entries as among, key_at, is_task, is_value_name}
-use Rattle.table.specs.Works.{ReadsParts, ReadsObject, PartsRead, at_members, at_array, at_value, at_entries, at_name}
+use Rattle.table.specs.Form.{nothing, doing, entries as among, key_at, is_task, is_value_name}
+use Rattle.table.specs.Works.{ReadsParts, ReadsObject, at_members, at_array, at_value, at_entries, at_name}
 use Rattle.table.proofs.Taking.{broken}
 use Rattle.table.proofs.Leaving.{left_again}
-use Rattle.table.proofs.Joining.{then, plain, token, token_fails, text_stops, stops_is, fails_now, starts_as, stops_as, on_stops}
+use Rattle.table.proofs.Joining.{plain, token, token_fails, text_stops, stops_is, fails_now, starts_as, stops_as, on_stops}
 use Rattle.table.proofs.Asides.{skipped, any_value}
 use Rattle.table.proofs.Rules.{array_opens, not_array, entry_opens, too_many, not_object, entries_end, name_comes, name_unknown, name_elsewhere, array_again, array_named, name_unknown_here, name_again, name_known}
 use Rattle.table.proofs.Reading.{own_most, object_further, plain_parts, parts_none, parts_step, parts_then, parts_stops, on_parts, parts_after, parts_as, object_entry, object_closed, next_first, entry_goes, entries_over, member_goes, members_over}

@@ -1,9 +1,8 @@
 -- From an object to the entries of its array the level goes down by one, and each turn of a loop passes a byte.
-use Rattle.std.proofs.Common.{◌≡◌, ℕ, ◌+◌, ◌-◌, ◌*◌, ◌≤◌, true, false, eqb, List, ◌∷◌, length}
+use Rattle.std.proofs.Common.{◌≡◌, ℕ, ◌+◌, ◌-◌, ◌*◌, ◌≤◌, true, eqb, List, ◌∷◌, length}
 use Rattle.text.specs.Machine.{members, entries}
 use Rattle.table.specs.Levels.{level_code}
-use Rattle.table.specs.Form.{Lot, ◌⊕◌, nothing}
-use Rattle.table.specs.Works.{Works, Filled, PartsRead, at_members, at_entries}
+use Rattle.table.specs.Works.{PartsRead, at_members, at_entries}
 use Rattle.table.proofs.read.+array_entries_entry_member_members_object.Given as goal
 
 abbrev pub decreases-array : goal.decreases-array

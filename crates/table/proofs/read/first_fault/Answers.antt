@@ -1,4 +1,4 @@
-use Rattle.std.proofs.Common.{◌≡◌, length, sym, refl, ap, ◌∙◌}
+use Rattle.std.proofs.Common.{length}
 use Rattle.table.proofs.Judgement.{stands_so, text_first, form_stays}
 use Rattle.table.proofs.read.first_fault.Goals as goal
 

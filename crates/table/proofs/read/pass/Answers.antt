@@ -1,4 +1,4 @@
-use Rattle.std.proofs.Common.{◌≡◌, ℕ, ◌<◌, ◌≤◌, min, true, false, List, [], ◌∷◌, length, Ok, Err, sym, refl, ap, ◌∙◌, inl, inr, arith}
+use Rattle.std.proofs.Common.{◌≡◌, ℕ, ◌<◌, min, true, List, [], ◌∷◌, length, Err, sym, refl, ap, ◌∙◌, inl, inr, arith}
 use Rattle.text.specs.declared.reader.Reader.{Reader}
 use Rattle.text.specs.declared.token.Token.{Token}
 use Rattle.text.specs.Machine.{value, members, begin_object}
@@ -8,8 +8,8 @@ use Rattle.table.specs.declared.level.Level.{Level}
 use Rattle.table.specs.declared.fault.FormRule.TheVariants.{OutermostNoObject}
 use Rattle.table.specs.Limits.{max_weight}
 use Rattle.table.specs.Drafts.{fresh}
-use Rattle.table.specs.Form.{nothing, begins}
-use Rattle.table.specs.Works.{States, Works, Passes, at_start, at_members}
+use Rattle.table.specs.Form.{nothing}
+use Rattle.table.specs.Works.{Works, Passes, at_start, at_members}
 use Rattle.table.proofs.Taking.{broken}
 use Rattle.table.proofs.Joining.{then, then_stops, token, token_fails, text_stops, on_works, on_stops}
 use Rattle.table.proofs.Rules.{not_task, task_opens}

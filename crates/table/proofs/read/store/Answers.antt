@@ -1,4 +1,4 @@
-use Rattle.std.proofs.Common.{◌≡◌, ◌≤◌, true, false, length, sym, arith, rules}
+use Rattle.std.proofs.Common.{◌≡◌, ◌≤◌, false, length, sym, arith, rules}
 use Rattle.std.proofs.lemmas.List.{set_past}
 use Rattle.table.specs.Form.{is_task}
 use Rattle.table.proofs.read.store.Goals as goal

@@ -1,4 +1,4 @@
-use Rattle.std.proofs.Common.{◌≡◌, ℕ, List, ◌∷◌, sym, refl, ap, ◌∙◌, Bor, rules}
+use Rattle.std.proofs.Common.{◌≡◌, ℕ, List, refl, Bor}
 use Rattle.text.specs.declared.reader.Reader.{Reader}
 use Rattle.text.specs.Strings.{stands}
 use Rattle.text.specs.declared.token.Token.{Token}

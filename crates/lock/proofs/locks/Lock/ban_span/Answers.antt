@@ -1,4 +1,4 @@
-use Rattle.std.proofs.Common.{◌≡◌, true, cond, pos, Some, None, vec_items, sym, ap, ◌∙◌, subst, w32, SFits}
+use Rattle.std.proofs.Common.{◌≡◌, true, Some, None, vec_items, sym, ap, ◌∙◌, subst, w32, SFits}
 use lib.Signed.{le_z}
 use Rattle.std.proofs.lemmas.Int.{to_z-of_z}
 use Rattle.std.proofs.lemmas.Bool.{and_parts, cond-true}

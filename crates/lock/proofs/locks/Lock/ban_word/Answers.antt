@@ -1,4 +1,4 @@
-use Rattle.std.proofs.Common.{◌≡◌, Some, vec_items, ap, ◌∙◌, subst}
+use Rattle.std.proofs.Common.{◌≡◌, Some, vec_items, subst}
 use Rattle.names.specs.Numbers.{attribute_numbered, word_numbered}
 use Rattle.lock.specs.Bans.{Bans, word_ban, a_word}
 use Rattle.lock.proofs.Banning.{added, word_is}

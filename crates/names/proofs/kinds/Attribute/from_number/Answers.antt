@@ -1,4 +1,3 @@
-use Rattle.std.proofs.Common.{rules}
 use Rattle.names.specs.Numbers.{attribute_numbered}
 use Rattle.names.proofs.kinds.Attribute.from_number.Goals as goal
 

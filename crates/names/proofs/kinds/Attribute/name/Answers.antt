@@ -1,4 +1,4 @@
-use Rattle.std.proofs.Common.{◌≡◌, [], get_or, ap, ◌∙◌}
+use Rattle.std.proofs.Common.{[], get_or, ap, ◌∙◌}
 use Rattle.names.specs.Vocabulary.{letters, starts, attribute_names, attribute_name}
 use Rattle.names.proofs.kinds.Attribute.name.Goals as goal
 

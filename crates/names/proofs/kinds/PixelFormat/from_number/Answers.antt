@@ -1,4 +1,3 @@
-use Rattle.std.proofs.Common.{rules}
 use Rattle.names.specs.Numbers.{format_numbered}
 use Rattle.names.proofs.kinds.PixelFormat.from_number.Goals as goal
 

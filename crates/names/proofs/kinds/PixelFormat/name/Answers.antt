@@ -1,4 +1,4 @@
-use Rattle.std.proofs.Common.{◌≡◌, [], get_or, ap, ◌∙◌}
+use Rattle.std.proofs.Common.{[], get_or, ap, ◌∙◌}
 use Rattle.names.specs.Vocabulary.{letters, starts, format_names, format_name}
 use Rattle.names.proofs.kinds.PixelFormat.name.Goals as goal
 

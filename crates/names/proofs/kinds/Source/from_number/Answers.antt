@@ -1,4 +1,3 @@
-use Rattle.std.proofs.Common.{rules}
 use Rattle.names.specs.Numbers.{source_numbered}
 use Rattle.names.proofs.kinds.Source.from_number.Goals as goal
 

@@ -1,4 +1,4 @@
-use Rattle.std.proofs.Common.{◌≡◌, [], get_or, ap, ◌∙◌}
+use Rattle.std.proofs.Common.{[], get_or, ap, ◌∙◌}
 use Rattle.names.specs.Vocabulary.{letters, starts, source_names, source_name}
 use Rattle.names.proofs.kinds.Source.name.Goals as goal
 

@@ -1,4 +1,3 @@
-use Rattle.std.proofs.Common.{rules}
 use Rattle.names.specs.Numbers.{word_numbered}
 use Rattle.names.proofs.kinds.Word.from_number.Goals as goal
 

@@ -1,4 +1,4 @@
-use Rattle.std.proofs.Common.{◌≡◌, [], get_or, ap, ◌∙◌}
+use Rattle.std.proofs.Common.{[], get_or, ap, ◌∙◌}
 use Rattle.names.specs.Vocabulary.{letters, starts, word_names, word_name}
 use Rattle.names.proofs.kinds.Word.name.Goals as goal
 

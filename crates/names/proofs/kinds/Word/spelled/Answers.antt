@@ -1,4 +1,4 @@
-use Rattle.std.proofs.Common.{◌≡◌, get_or, sym, ap, ◌∙◌}
+use Rattle.std.proofs.Common.{get_or, sym, ap, ◌∙◌}
 use Rattle.std.specs.Option.{option_map}
 use Rattle.names.specs.declared.kinds.Word.{Word}
 use Rattle.names.specs.Vocabulary.{letters, starts, words, word_spelled}

@@ -1,4 +1,4 @@
-use Rattle.std.proofs.Common.{◌≡◌, not, Some, None, sym, refl, ap, ◌∙◌, inl, inr}
+use Rattle.std.proofs.Common.{not, Some, sym, refl, ap, ◌∙◌, inl, inr}
 use Rattle.text.specs.Strings.{stands}
 use Rattle.names.proofs.Looking.{tested}
 use Rattle.table.specs.Words.{foreign, vendor}

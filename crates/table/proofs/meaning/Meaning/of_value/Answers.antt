@@ -1,4 +1,4 @@
-use Rattle.std.proofs.Common.{◌≡◌, Some, None, sym, refl, ap, ◌∙◌, to_z-of_z, w32, SFits, to_z, of_z, rules}
+use Rattle.std.proofs.Common.{◌≡◌, Some, sym, ap, ◌∙◌, to_z-of_z, w32, SFits, to_z, of_z, rules}
 use Rattle.names.specs.declared.kinds.Value.{Value}
 use Rattle.table.specs.declared.meaning.Meaning.{Meaning}
 use Rattle.table.proofs.Taking.{string_value, number_value, other_value}

@@ -1,4 +1,4 @@
-use Rattle.std.proofs.Common.{◌≡◌, refl, ap, ◌∙◌, rules}
+use Rattle.std.proofs.Common.{ap, rules}
 use Rattle.table.specs.declared.meaning.Meaning.{Meaning}
 use Rattle.table.specs.Words.{word_meaning}
 use Rattle.table.proofs.meaning.Meaning.of_word.Goals as goal

@@ -1,4 +1,4 @@
-use Rattle.std.proofs.Common.{◌≡◌, [], ◌∷◌, ◌++◌, sym, refl, ap, ◌∙◌}
+use Rattle.std.proofs.Common.{[], ◌∷◌, ◌++◌, ap, ◌∙◌}
 use Rattle.names.specs.declared.kinds.Source.{Source}
 use Rattle.table_scanner.proofs.Fillings.{listed, begun}
 use Rattle.table_scanner.proofs.table.TableScanner.new.Goals as goal

@@ -3,7 +3,7 @@ use Rattle.text.specs.declared.reader.Reader.{Reader}
 use Rattle.text.specs.declared.token.Token.{Token}
 use Rattle.text.specs.Machine.{value, over}
 use Rattle.text.specs.Ahead.{Onward, TokenAt, TokenRead, ReadsToken}
-use Rattle.text.proofs.Steps.{token, bad_end, then_passed, then_halted, broken}
+use Rattle.text.proofs.Steps.{bad_end, then_passed, then_halted, broken}
 use Rattle.text.proofs.Frames.{skip_value}
 use Rattle.text.proofs.reader.Reader.token.Goals as goal
 

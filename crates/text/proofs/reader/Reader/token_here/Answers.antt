@@ -5,7 +5,7 @@ use Rattle.text.specs.declared.token.Token.{Token}
 use Rattle.text.specs.declared.token.Token.TheVariants.{String, Number, True, False, Null}
 use Rattle.text.specs.Machine.{Kind, Frame, value, chars, says, event, letters, step, string, literal_true, literal_false, literal_null}
 use Rattle.text.specs.Ahead.{here, Inside, Passed, StringRead, NumberRead, kind_of, after_token, length_of, Holds, Opened, TokenRead, ReadsTokenHere}
-use Rattle.text.proofs.Steps.{token, announced, bad_here, then_passed, passed_halted, broken}
+use Rattle.text.proofs.Steps.{announced, bad_here, then_passed, passed_halted, broken}
 use Rattle.text.proofs.reader.Reader.token_here.Goals as goal
 use Rattle.text.proofs.reader.Reader.token_here.Goals.{in_default-via-then-this-lt48, in_default-via-else-this-lt48+else-this-lt58}
 

@@ -1,4 +1,4 @@
-use Rattle.std.proofs.Common.{◌≡◌, true, false, set, vec_items, unwrap_or, refl, ap, ◌∙◌, rules}
+use Rattle.std.proofs.Common.{◌≡◌, true, set, vec_items, unwrap_or, refl, ◌∙◌, rules}
 use Rattle.names.specs.declared.kinds.PixelFormat.{PixelFormat}
 use Rattle.scanners.specs.Search.{any_of}
 use Rattle.table_scanner.specs.Device.{catalogue_of}

@@ -1,4 +1,4 @@
-use Rattle.std.proofs.Common.{◌≡◌, true, false, map, vec_items, unwrap_or, sym, refl, ap, ◌∙◌, rules}
+use Rattle.std.proofs.Common.{◌≡◌, true, false, map, vec_items, unwrap_or, refl, ap, ◌∙◌, rules}
 use Rattle.std.specs.Vec.{with_items}
 use Rattle.names.specs.declared.kinds.PixelFormat.{PixelFormat}
 use Rattle.scanners.specs.Search.{any_of}
