@@ -1,6 +1,6 @@
 -- Every pair and line of a stream's plan is offered.
 use Rattle.std.proofs.Common.{◌≡◌, ℕ, Bool, true, false, cond, List, [], ◌∷◌, Some, None, Option, sym, refl, ap, ◌∙◌, arith}
-use Rattle.std.specs.List.{AllByRecursion as All}
+use Rattle.std.specs.List.{AllByRecursion}
 use Rattle.std.proofs.ByRecursion.{All-append}
 use Rattle.names.specs.declared.kinds.Source.{Source}
 use Rattle.names.specs.declared.kinds.PixelFormat.{PixelFormat}
@@ -30,42 +30,42 @@ module _ (k : Catalogue) (home_source : k.offers_source k.home_source ≡ true) 
   abbrev Offered : Item → Type 0
   Offered x = item_offered k x ≡ true
 
-  within_offered : {X : Type 0} (o : Option X) (inside : X → List Item) → ((x : X) → o ≡ Some x → All Offered (inside x)) → All Offered (within o inside)
+  within_offered : {X : Type 0} (o : Option X) (inside : X → List Item) → ((x : X) → o ≡ Some x → AllByRecursion Offered (inside x)) → AllByRecursion Offered (within o inside)
   unfolding within
   within_offered None inside h = tt
   within_offered (Some x) inside h = h x refl
 
-  else_offered : (d xs : List Item) → All Offered d → All Offered xs → All Offered (or_else d xs)
+  else_offered : (d xs : List Item) → AllByRecursion Offered d → AllByRecursion Offered xs → AllByRecursion Offered (or_else d xs)
   else_offered d [] h n = h
   else_offered d (x ∷ xs) h n = n
 
-  line_offered : (p : Point) (vs : List ValueObject) (c : Choice) → Chooses k p vs c → All Offered (line_of p c)
+  line_offered : (p : Point) (vs : List ValueObject) (c : Choice) → Chooses k p vs c → AllByRecursion Offered (line_of p c)
   line_offered p vs Unset h = tt
   line_offered p vs (Taken v) h = (named_offered (k.offers_value p) h.object.word.value v h.offered, tt)
   line_offered p vs (Closed x) h = tt
 
-  attributes_offered : (s : Source) (f : PixelFormat) (os : List AttributeObject) → All Offered (attributes_items k s f os)
+  attributes_offered : (s : Source) (f : PixelFormat) (os : List AttributeObject) → AllByRecursion Offered (attributes_items k s f os)
   attributes_offered s f [] = tt
   attributes_offered s f (o ∷ os) =
       All-append Offered (attribute_items k s f o) (attributes_items k s f os)
       (within_offered (point_meant k s f o.word.value) (λ p. line_of p (chosen k p o.parts)) (λ p e. line_offered p o.parts (chosen k p o.parts) (chosen_once k p o.parts).is))
       (attributes_offered s f os)
 
-  formats_offered : (s : Source) (os : List FormatObject) → All Offered (formats_items k s os)
+  formats_offered : (s : Source) (os : List FormatObject) → AllByRecursion Offered (formats_items k s os)
   formats_offered s [] = tt
   formats_offered s (o ∷ os) =
       All-append Offered (format_items k s o) (formats_items k s os)
       (within_offered (format_meant k s o.word) (λ f. Item.Pair s f ∷ attributes_items k s f o.parts) (λ f e. (named_offered (k.offers_format s) (meant_by (k.home_format s) o.word) f e, attributes_offered s f o.parts)))
       (formats_offered s os)
 
-  sources_offered : (os : List SourceObject) → All Offered (sources_items k os)
+  sources_offered : (os : List SourceObject) → AllByRecursion Offered (sources_items k os)
   sources_offered [] = tt
   sources_offered (o ∷ os) =
       All-append Offered (source_items k o) (sources_items k os)
       (within_offered (source_meant k o.word) (λ s. Item.Source s ∷ or_else (home_pair k s) (formats_items k s o.parts)) (λ s e. (refl, else_offered (home_pair k s) (formats_items k s o.parts) (home_format s (named_offered k.offers_source (meant_by k.home_source o.word) s e), tt) (formats_offered s o.parts))))
       (sources_offered os)
 
-  default_offered : All Offered (default_items k)
+  default_offered : AllByRecursion Offered (default_items k)
   default_offered = (refl, (home_format k.home_source home_source, tt))
 
   streams_offered : (os : List StreamObject) → OfStreams k (AllOffered k) os

@@ -1,6 +1,6 @@
 -- What a scanner holds once a plan is put in.
 use Rattle.std.specs.Prelude.{◌≡◌, Bool, true, ◌⊎◌, List, [], ◌∷◌, ◌++◌, Some, Decides, filter}
-use Rattle.std.specs.List.{AllByRecursion as All}
+use Rattle.std.specs.List.{AllByRecursion}
 use Rattle.names.specs.declared.kinds.Source.{Source}
 use Rattle.names.specs.declared.kinds.PixelFormat.{PixelFormat}
 use Rattle.names.specs.declared.kinds.Value.{Value}
@@ -17,7 +17,7 @@ item_offered k (items.Line p v) = k.offers_value p v
 
 -- every item of the plan is offered
 abbrev pub AllOffered : Catalogue → List Item → Type 0
-AllOffered k plan = All (λ x. item_offered k x ≡ true) plan
+AllOffered k plan = AllByRecursion (λ x. item_offered k x ≡ true) plan
 
 -- the items of the plan that are offered, in order: the others are told no and have no effect
 abbrev pub offered_of : Catalogue → List Item → List Item

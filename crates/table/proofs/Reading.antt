@@ -6,7 +6,7 @@ use Rattle.text.specs.declared.token.Token.{Token}
 use Rattle.text.specs.declared.token.Member.{Member}
 use Rattle.text.specs.declared.token.Member.TheVariants.{Named, End}
 use Rattle.text.specs.declared.token.Placed.{Placed}
-use Rattle.text.specs.Machine.{value, members, entries as entry_Frame, event, string, end_object, end_array}
+use Rattle.text.specs.Machine.{value, members, entries as entry_frame, event, string, end_object, end_array}
 use Rattle.text.specs.Strings.{stands}
 use Rattle.text.specs.Parts.{string_part}
 use Rattle.text.specs.Ahead.{Stack, Passed, TokenRead, NameRead, ReadsMember, ReadsEntry}
@@ -120,11 +120,11 @@ object_closed t lv f h0 h t0 t1 t2 outer reserved inner r s u j (Err y) p e l v 
 pub next_first : (n : ℕ) → eqb (n + 1) 0 ≡ false
 next_first n = grind (arith, nat_tests)
 
-pub entry_goes : (f : Bool) (r s : Reader) (b : Bool) → b ≡ true → ReadsEntry f r s (Ok b) → (d : ℕ) → Passed (λ k. entry_Frame f d ∷ k) (λ k. value d ∷ entry_Frame false d ∷ k) (λ u. u) r s
+pub entry_goes : (f : Bool) (r s : Reader) (b : Bool) → b ≡ true → ReadsEntry f r s (Ok b) → (d : ℕ) → Passed (λ k. entry_frame f d ∷ k) (λ k. value d ∷ entry_frame false d ∷ k) (λ u. u) r s
 entry_goes f r s true e p d = p d
 entry_goes f r s false e p d = absurd (let z : ◌≡◌ {A = ℕ} 0 1 = cc in omega arith)
 
-pub entries_over : (f : Bool) (r s : Reader) (b : Bool) → b ≡ false → ReadsEntry f r s (Ok b) → (j : ℕ) × (s.at ≡ j + 1) × ((d : ℕ) → Passed (λ k. entry_Frame f d ∷ k) (λ k. k) (event end_array j) r s)
+pub entries_over : (f : Bool) (r s : Reader) (b : Bool) → b ≡ false → ReadsEntry f r s (Ok b) → (j : ℕ) × (s.at ≡ j + 1) × ((d : ℕ) → Passed (λ k. entry_frame f d ∷ k) (λ k. k) (event end_array j) r s)
 entries_over f r s true e p = absurd (let z : ◌≡◌ {A = ℕ} 0 1 = cc in omega arith)
 entries_over f r s false e p = p
 

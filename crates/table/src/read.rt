@@ -1,6 +1,6 @@
 // Reading a task: one pass over the text, an object and its array calling one another.
 ghost use Rattle.std.specs.Prelude.{◌≡◌, ℕ, ◌+◌, ◌-◌, ◌^◌, ◌<◌, ◌≤◌, true, false, List, ◌∷◌, length, Err, OnOk};
-ghost use Rattle.text.specs.Machine.{value as a-value, members as some-members, entries as some-entries};
+ghost use Rattle.text.specs.Machine.{value as a_value, members as some_members, entries as some_entries};
 ghost use Rattle.text.specs.Strings.{stands};
 ghost use Rattle.table.specs.Levels.{level_code};
 ghost use Rattle.table.specs.Words.{key_spelled};
@@ -90,7 +90,7 @@ fn member(
     requires { tally.used ≤ reader.old.at }
     ensures place { place.new ≡ place.old }
     ensures level { draft.new.level ≡ draft.old.level }
-    ensures reads { (t : List ℕ) → reader.old.text.now ≡ t → ReadsParts t (λ k. a-value levels ∷ k) (λ k. k) (at_name (key_spelled (stands name.entry.value.now)) draft.old name.entry.offset) (at_members draft.new) table.old table.new tally reader.old reader.new result }
+    ensures reads { (t : List ℕ) → reader.old.text.now ≡ t → ReadsParts t (λ k. a_value levels ∷ k) (λ k. k) (at_name (key_spelled (stands name.entry.value.now)) draft.old name.entry.offset) (at_members draft.new) table.old table.new tally reader.old reader.new result }
 {
     let Some(key) = Key::spelled(name.value) else {
         draft.head.unknown = true;
@@ -136,7 +136,7 @@ fn array(
     requires { tally.used ≤ reader.old.at }
     ensures place { place.new ≡ place.old }
     ensures level { draft.new.level ≡ draft.old.level }
-    ensures reads { (t : List ℕ) → reader.old.text.now ≡ t → ReadsParts t (λ k. a-value levels ∷ k) (λ k. k) (at_array part draft.old) (at_members draft.new) table.old table.new tally reader.old reader.new result }
+    ensures reads { (t : List ℕ) → reader.old.text.now ≡ t → ReadsParts t (λ k. a_value levels ∷ k) (λ k. k) (at_array part draft.old) (at_members draft.new) table.old table.new tally reader.old reader.new result }
 {
     let token = reader.token(levels)?;
     let Token::Array = token.value else {
@@ -159,7 +159,7 @@ fn entries(
     requires { tally.used ≤ reader.old.at }
     ensures place { place.new ≡ place.old }
     ensures level { draft.new.level ≡ draft.old.level }
-    ensures reads { (t : List ℕ) → reader.old.text.now ≡ t → ReadsParts t (λ k. some-entries true levels ∷ k) (λ k. k) (at_entries part 0 draft.old) (at_members draft.new) table.old table.new tally reader.old reader.new result }
+    ensures reads { (t : List ℕ) → reader.old.text.now ≡ t → ReadsParts t (λ k. some_entries true levels ∷ k) (λ k. k) (at_entries part 0 draft.old) (at_members draft.new) table.old table.new tally reader.old reader.new result }
 {
     let mut tally = tally;
     let mut index: u32 = 0;
@@ -185,7 +185,7 @@ fn entry(
     requires { tally.used ≤ reader.old.at }
     ensures place { place.new ≡ place.old }
     ensures further { OnOk result ((reader.old.at < reader.new.at) × (index < 37)) }
-    ensures reads { (t : List ℕ) (h : Draft) → reader.old.text.now ≡ t → ReadsParts t (λ k. a-value levels ∷ k) (λ k. k) (at_entries level index h) (at_entries level (index + 1) h) table.old table.new tally reader.old reader.new result }
+    ensures reads { (t : List ℕ) (h : Draft) → reader.old.text.now ≡ t → ReadsParts t (λ k. a_value levels ∷ k) (λ k. k) (at_entries level index h) (at_entries level (index + 1) h) table.old table.new tally reader.old reader.new result }
 {
     let token = reader.token(levels)?;
     if index >= level.limit() {

@@ -11,7 +11,7 @@ use Rattle.text.specs.Machine.{Frame, Kind, Tape, value, literal, good, event, e
 use Rattle.text.specs.Tree.{events, member_events, entry_events}
 use Rattle.text.specs.Parts.{extent, value_length, string_part, number_part}
 use Rattle.text.specs.Strings.{units, paired, joined, high, low}
-use Rattle.text.specs.Numbers.{decimal as read-on, up_to, negated, positive, integer_of}
+use Rattle.text.specs.Numbers.{decimal as read_on, up_to, negated, positive, integer_of}
 use Rattle.text.specs.Canonical.{Plain, Fields, Items, word, integer, object_of, array_of, no_field, a_field, no_item, an_item, written_on, fields_on, items_on, written, past, past_value, past_fields, past_items, placed, placed_fields, placed_items, Letters, Within32, number_ends}
 use Rattle.text.specs.ReadsBack.{WordsBack, IntegersBack, Folding, fold_tape, fold_value, fold_fields, fold_items, FoldsBack}
 use Rattle.text.proofs.Extents.{extent_run}
@@ -70,13 +70,13 @@ integer_part z r h c =
     ap (λ m. take m t) n ∙ take_front (signed_decimal z) r
 
 -- digits without a zero before others are read as their number
-positive_back : (ds : List ℕ) (n : ℕ) → Figures ds → 0 < length ds → (get_or ds 0 0 ≡ 48 → 1 < length ds → ⊥) → read-on 0 ds ≡ Some n → n ≤ 2147483647 → integer_of ds ≡ Some (pos n)
+positive_back : (ds : List ℕ) (n : ℕ) → Figures ds → 0 < length ds → (get_or ds 0 0 ≡ 48 → 1 < length ds → ⊥) → read_on 0 ds ≡ Some n → n ≤ 2147483647 → integer_of ds ≡ Some (pos n)
 positive_back [] n s l z e h = absurd (omega arith)
 positive_back (c ∷ cs) n s l z e h =
     let q : eqb c 45 ≡ false = let y = s.0 in grind (arith, nat_tests) in
     cond-false (eqb c 45) _ _ q ∙ ap (λ o. positive (up_to 2147483647 o)) (magnitude_start (c ∷ cs) l z ∙ e) ∙ ap positive (cond-true (leb n 2147483647) (Some n) None (grind (arith, nat_tests)))
 
-negative_back : (ds : List ℕ) (n : ℕ) → 0 < length ds → (get_or ds 0 0 ≡ 48 → 1 < length ds → ⊥) → read-on 0 ds ≡ Some (suc n) → n ≤ 2147483647 → integer_of (45 ∷ ds) ≡ Some (negsuc n)
+negative_back : (ds : List ℕ) (n : ℕ) → 0 < length ds → (get_or ds 0 0 ≡ 48 → 1 < length ds → ⊥) → read_on 0 ds ≡ Some (suc n) → n ≤ 2147483647 → integer_of (45 ∷ ds) ≡ Some (negsuc n)
 negative_back ds n l z e h = ap (λ o. negated (up_to 2147483648 o)) (magnitude_start ds l z ∙ e) ∙ ap negated (cond-true (leb (suc n) 2147483648) (Some (suc n)) None (grind (arith, nat_tests)))
 
 no_zero : (n : ℕ) → n < 2 ^ 64 → get_or (decimal n) 0 0 ≡ 48 → 1 < length (decimal n) → ⊥

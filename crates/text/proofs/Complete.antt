@@ -4,7 +4,7 @@ use Rattle.std.proofs.lemmas.Bool.{cond-true, cond-false}
 use Rattle.std.proofs.lemmas.Bool.Decides.{nat_tests}
 use Rattle.text.specs.Bytes.{between, white, digit, hex_digit, exponent_mark, sign_mark, short_escape}
 use Rattle.text.specs.Machine.{Kind, Frame, Part, whole, fraction, exponent, value, first, digits, digit1, sign, after, chars, escape, hex, tail, member, colon, members, entries, go, says, forbidden, ending, tails, hexes, step, over, run, begin_object, end_object, begin_array, end_array, name, string, number}
-use Rattle.text.specs.Grammar.{Ws, ws_none, ws_more, Mark, mark, Digits, digits_none, digits_more, Digits1, digits1, minus_none, minus, Int, int_zero, int_more, Frac, frac_none, frac, Sign, sign_none, sign as sign-some, Exp, exp_none, exp, Number, number as a-number, Hexes, hexes_none, hexes_more, Tails, tails_none, tails_more, Wide, wide_2, wide_e0, wide_e1, wide_ed, wide_ee, wide_f0, wide_f1, wide_f4, Char, ascii, wide, escaped, escaped_hex, Chars, chars_none, chars_more, str, Value, is_false, is_null, is_true, is_object, is_array, is_number, is_string, Object, object_none, object_some, Members, members_end, members_more, Member, member as a-member, Array, array_none, array_some, Entries, entries_end, entries_more, Text, text}
+use Rattle.text.specs.Grammar.{Ws, ws_none, ws_more, Mark, mark, Digits, digits_none, digits_more, Digits1, digits1, minus_none, minus, Int, int_zero, int_more, Frac, frac_none, frac, Sign, sign_none, sign as sign_some, Exp, exp_none, exp, Number, number as a_number, Hexes, hexes_none, hexes_more, Tails, tails_none, tails_more, Wide, wide_2, wide_e0, wide_e1, wide_ed, wide_ee, wide_f0, wide_f1, wide_f4, Char, ascii, wide, escaped, escaped_hex, Chars, chars_none, chars_more, str, Value, is_false, is_null, is_true, is_object, is_array, is_number, is_string, Object, object_none, object_some, Members, members_end, members_more, Member, member as a_member, Array, array_none, array_some, Entries, entries_end, entries_more, Text, text}
 use Rattle.text.specs.Canonical.{number_ends}
 use Rattle.text.proofs.Steps.{run_like, run_go, run_forbidden}
 use Rattle.text.proofs.Stacks.{Rest, rest_none, rest_object, rest_array, Accepts, accepts_go, accepts_says}
@@ -110,7 +110,7 @@ module _ (k : List Frame) where
 
   sign_on : {t a u : List ℕ} → Sign t a → Digits1 a u → undigit u ≡ true → Accepts (after exponent ∷ k) u → Accepts (sign ∷ k) t
   sign_on sign_none (digits1 {b} h ds) e a = accepts_like _ _ b _ (unsigned b h) (digits1_on exponent (digits1 h ds) e a)
-  sign_on (sign-some {b} h) ds e a = accepts_go _ _ b _ (signed b h) (digits1_on exponent ds e a)
+  sign_on (sign_some {b} h) ds e a = accepts_go _ _ b _ (signed b h) (digits1_on exponent ds e a)
 
   exponent_whole : (b : ℕ) → exponent_mark b ≡ true → step (after whole ∷ k) b ≡ go (sign ∷ k)
   unfolding step
@@ -173,8 +173,8 @@ module _ (k : List Frame) where
   int_value_on d (int_more {b} h ds) r x e a = accepts_says _ _ number b _ (value_more d b h) (digits_on whole ds (frac_undigit r x e) (frac_on r x e a))
 
   number_on : (d : ℕ) {t u : List ℕ} → Number t u → number_ends u ≡ true → Accepts k u → Accepts (value d ∷ k) t
-  number_on d (a-number minus_none i r x) e a = int_value_on d i r x e a
-  number_on d (a-number minus i r x) e a = accepts_says _ _ number 45 _ (value_minus d) (int_first_on i r x e a)
+  number_on d (a_number minus_none i r x) e a = int_value_on d i r x e a
+  number_on d (a_number minus i r x) e a = accepts_says _ _ number 45 _ (value_minus d) (int_first_on i r x e a)
 
   tail_step : (lo hi n b : ℕ) → between lo hi b ≡ true → step (tail lo hi n ∷ k) b ≡ go (tails n k)
   unfolding step
@@ -382,7 +382,7 @@ mutual
 
   -- a member, wherever its name may stand
   member_on : {d : ℕ} {t u : List ℕ} {k : List Frame} (f : List Frame) → step f 34 ≡ says name (chars ∷ colon d ∷ k) → Member d t u → Rest k → number_ends u ≡ true → Accepts (members false d ∷ k) u → Accepts f t
-  member_on {d} {k = k} f q (a-member (str s) m v) r c a = accepts_says f _ name 34 _ q (string_on (colon d ∷ k) s (mark_goes _ _ 58 (colon_blank d k) (colon_step d k) (value_blank d (members false d ∷ k)) m (value_on v (rest_object r) c a)))
+  member_on {d} {k = k} f q (a_member (str s) m v) r c a = accepts_says f _ name 34 _ q (string_on (colon d ∷ k) s (mark_goes _ _ 58 (colon_blank d k) (colon_step d k) (value_blank d (members false d ∷ k)) m (value_on v (rest_object r) c a)))
 
   members_on : {d : ℕ} {t u : List ℕ} {k : List Frame} → Members d t u → Rest k → Accepts k u → Accepts (members false d ∷ k) t
   members_on {d} {k = k} (members_end m) r a = mark_says _ _ end_object 125 (rest_blank (rest_object r)) (members_end_step d k) (rest_blank r) m a
@@ -423,7 +423,7 @@ mutual
   more_object (object_some m ms) e h = object_some (more_member m e h) (more_members ms e h)
 
   more_member : {d : ℕ} {t u : List ℕ} → Member d t u → (e : ℕ) → d ≤ e → Member e t u
-  more_member (a-member s m v) e h = a-member s m (more_value v e h)
+  more_member (a_member s m v) e h = a_member s m (more_value v e h)
 
   more_members : {d : ℕ} {t u : List ℕ} → Members d t u → (e : ℕ) → d ≤ e → Members e t u
   more_members (members_end m) e h = members_end m

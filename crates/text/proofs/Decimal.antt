@@ -1,5 +1,5 @@
 -- Digits read in base ten.
-use Rattle.std.proofs.Common.{◌≡◌, ℕ, ◌+◌, ◌-◌, ◌*◌, ◌/◌, ◌%◌, ◌^◌, ◌<◌, Bool, true, false, eqb, List, [], ◌∷◌, ◌++◌, length, get_or, Some, None, decimal as written-decimal, sym, refl, ap, ◌∙◌, arith}
+use Rattle.std.proofs.Common.{◌≡◌, ℕ, ◌+◌, ◌-◌, ◌*◌, ◌/◌, ◌%◌, ◌^◌, ◌<◌, Bool, true, false, eqb, List, [], ◌∷◌, ◌++◌, length, get_or, Some, None, decimal as written_decimal, sym, refl, ap, ◌∙◌, arith}
 use Rattle.std.proofs.lemmas.Fmt.{decimal_by_steps}
 use Rattle.std.proofs.lemmas.Bool.{cond-false}
 use Rattle.std.proofs.lemmas.Bool.Decides.{nat_tests}
@@ -37,5 +37,5 @@ decimal_one : (d : ℕ) → d < 10 → decimal 0 ((48 + d) ∷ []) ≡ Some d
 decimal_one d h = decimal_digit 0 (48 + d) [] (grind (arith, nat_tests)) ∙ decimal_end _ ∙ ap Some (omega arith)
 
 -- the digits of a number are read as the number
-pub decimal_back : (n : ℕ) → n < 2 ^ 64 → decimal 0 (written-decimal n) ≡ Some n
+pub decimal_back : (n : ℕ) → n < 2 ^ 64 → decimal 0 (written_decimal n) ≡ Some n
 decimal_back = decimal_by_steps (λ n ds. decimal 0 ds ≡ Some n) decimal_one (λ n ds h e. decimal_push ds 0 (n / 10) (n % 10) (omega arith) e ∙ ap Some (omega arith))

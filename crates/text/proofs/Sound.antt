@@ -5,7 +5,7 @@ use Rattle.std.proofs.lemmas.Bool.Decides.{nat_tests}
 use Rattle.text.specs.declared.fault.TextFault.TheVariants.{Forbidden}
 use Rattle.text.specs.Bytes.{between, white, digit, hex_digit, exponent_mark, sign_mark, short_escape}
 use Rattle.text.specs.Machine.{Kind, Frame, Part, Step, whole, fraction, exponent, value, first, digits, digit1, sign, after, chars, escape, hex, tail, literal, member, colon, members, entries, go, says, forbidden, too_deep, good, fault, ending, tails, hexes, letters, lead, opens, begins, follows, step, over, ends, run, begin_object, begin_array}
-use Rattle.text.specs.Grammar.{Ws, ws_none, ws_more, Mark, mark, Digits, digits_none, digits_more, Digits1, digits1, minus_none, minus, Int, int_zero, int_more, Frac, frac_none, frac, Sign, sign_none, sign as sign-some, Exp, exp_none, exp, number as a-number, Hexes, hexes_none, hexes_more, Tails, tails_none, tails_more, wide_2, wide_e0, wide_e1, wide_ed, wide_ee, wide_f0, wide_f1, wide_f4, ascii, wide, escaped, escaped_hex, Chars, chars_none, chars_more, str, Value, is_false, is_null, is_true, is_object, is_array, is_number, is_string, Object, object_none, object_some, Members, members_end, members_more, Member, member as a-member, Array, array_none, array_some, Entries, entries_end, entries_more, Text, text}
+use Rattle.text.specs.Grammar.{Ws, ws_none, ws_more, Mark, mark, Digits, digits_none, digits_more, Digits1, digits1, minus_none, minus, Int, int_zero, int_more, Frac, frac_none, frac, Sign, sign_none, sign as sign_some, Exp, exp_none, exp, number as a_number, Hexes, hexes_none, hexes_more, Tails, tails_none, tails_more, wide_2, wide_e0, wide_e1, wide_ed, wide_ee, wide_f0, wide_f1, wide_f4, ascii, wide, escaped, escaped_hex, Chars, chars_none, chars_more, str, Value, is_false, is_null, is_true, is_object, is_array, is_number, is_string, Object, object_none, object_some, Members, members_end, members_more, Member, member as a_member, Array, array_none, array_some, Entries, entries_end, entries_more, Text, text}
 use Rattle.text.proofs.Steps.{run_go, run_says, run_forbidden, run_deep}
 
 -- what may follow a part of a number
@@ -102,13 +102,13 @@ module _ (k : List Frame) where
   value_string d bs (fits (l_chars c) f) = fits (l_value ws_none (is_string (str c))) f
 
   value_minus : (d : ℕ) (bs : List ℕ) → Fits (first ∷ k) bs → Fits (value d ∷ k) (45 ∷ bs)
-  value_minus d bs (fits (l_first i (after_whole r e)) f) = fits (l_value ws_none (is_number (a-number minus i r e))) f
+  value_minus d bs (fits (l_first i (after_whole r e)) f) = fits (l_value ws_none (is_number (a_number minus i r e))) f
 
   value_zero : (d : ℕ) (bs : List ℕ) → Fits (after whole ∷ k) bs → Fits (value d ∷ k) (48 ∷ bs)
-  value_zero d bs (fits (l_after (after_whole r e)) f) = fits (l_value ws_none (is_number (a-number minus_none int_zero r e))) f
+  value_zero d bs (fits (l_after (after_whole r e)) f) = fits (l_value ws_none (is_number (a_number minus_none int_zero r e))) f
 
   value_digit : (d b : ℕ) → between 49 57 b ≡ true → (bs : List ℕ) → Fits (digits whole ∷ k) bs → Fits (value d ∷ k) (b ∷ bs)
-  value_digit d b q bs (fits (l_digits ds (after_whole r e)) f) = fits (l_value ws_none (is_number (a-number minus_none (int_more q ds) r e))) f
+  value_digit d b q bs (fits (l_digits ds (after_whole r e)) f) = fits (l_value ws_none (is_number (a_number minus_none (int_more q ds) r e))) f
 
   value_true : (d : ℕ) (bs : List ℕ) → Fits (literal (114 ∷ 117 ∷ 101 ∷ []) ∷ k) bs → Fits (value d ∷ k) (116 ∷ bs)
   value_true d bs (fits (l_literal (spelt_more (spelt_more (spelt_more spelt_none)))) f) = fits (l_value ws_none is_true) f
@@ -159,7 +159,7 @@ module _ (k : List Frame) where
   some_digit p b e bs (fits (l_digits ds a) f) = fits (l_digit1 (digits1 e ds) a) f
 
   with_sign : (b : ℕ) → sign_mark b ≡ true → (bs : List ℕ) → Fits (digit1 exponent ∷ k) bs → Fits (sign ∷ k) (b ∷ bs)
-  with_sign b e bs (fits (l_digit1 ds after_exponent) f) = fits (l_sign (sign-some e) ds) f
+  with_sign b e bs (fits (l_digit1 ds after_exponent) f) = fits (l_sign (sign_some e) ds) f
 
   without_sign : (b : ℕ) → digit b ≡ true → (bs : List ℕ) → Fits (digits exponent ∷ k) bs → Fits (sign ∷ k) (b ∷ bs)
   without_sign b e bs (fits (l_digits ds after_exponent) f) = fits (l_sign sign_none (digits1 e ds)) f
@@ -246,7 +246,7 @@ module _ (k : List Frame) where
   member_white d b e bs (fits (l_member w m ms) f) = fits (l_member (ws_more e w) m ms) f
 
   member_name : (d : ℕ) (bs : List ℕ) → Fits (chars ∷ colon d ∷ k) bs → Fits (member d ∷ k) (34 ∷ bs)
-  member_name d bs (fits (l_chars c) (fits (l_colon m v ms) f)) = fits (l_member ws_none (a-member (str c) m v) ms) f
+  member_name d bs (fits (l_chars c) (fits (l_colon m v ms) f)) = fits (l_member ws_none (a_member (str c) m v) ms) f
 
   colon_white : (d b : ℕ) → white b ≡ true → (bs : List ℕ) → Fits (colon d ∷ k) bs → Fits (colon d ∷ k) (b ∷ bs)
   colon_white d b e bs (fits (l_colon (mark w x) v ms) f) = fits (l_colon (mark (ws_more e w) x) v ms) f
@@ -261,7 +261,7 @@ module _ (k : List Frame) where
   object_empty d bs f = fits (l_object ws_none (object_none (mark ws_none ws_none))) f
 
   object_name : (d : ℕ) (bs : List ℕ) → Fits (chars ∷ colon d ∷ k) bs → Fits (members true d ∷ k) (34 ∷ bs)
-  object_name d bs (fits (l_chars c) (fits (l_colon m v ms) f)) = fits (l_object ws_none (object_some (a-member (str c) m v) ms)) f
+  object_name d bs (fits (l_chars c) (fits (l_colon m v ms) f)) = fits (l_object ws_none (object_some (a_member (str c) m v) ms)) f
 
   members_white : (d b : ℕ) → white b ≡ true → (bs : List ℕ) → Fits (members false d ∷ k) bs → Fits (members false d ∷ k) (b ∷ bs)
   members_white d b e bs (fits (l_members (members_end (mark w x))) f) = fits (l_members (members_end (mark (ws_more e w) x))) f

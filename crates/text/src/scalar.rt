@@ -2,7 +2,7 @@
 ghost use Rattle.std.specs.Prelude.{◌≡◌, ℕ, ◌<◌, true, false, ◌⊎◌, List, ◌∷◌, OnOk, ◌≢◌};
 ghost use Rattle.text.specs.declared.fault.TextFault.TheVariants.{Forbidden};
 ghost use Rattle.text.specs.Bytes.{white, digit};
-ghost use Rattle.text.specs.Machine.{Frame, Part, whole, fraction, exponent, value as a-value, first, digits, digit1, sign, after, chars, escape, hex, hexes, tail, tails, lead, event, number as a-number};
+ghost use Rattle.text.specs.Machine.{Frame, Part, whole, fraction, exponent, value as a_value, first, digits, digit1, sign, after, chars, escape, hex, hexes, tail, tails, lead, event, number as a_number};
 ghost use Rattle.text.specs.Ahead.{Stack, Reads, ReadsTo, ReadsLetters, Onward, Passed, Inside, here, Skips, led};
 
 use crate::fault::TextFault;
@@ -156,7 +156,7 @@ impl<'a> Reader<'a> {
     pub(crate) fn minus(&mut self)
         requires inside { Inside self.old }
         requires is { (here self.old ≡ 45) ⊎ (digit (here self.old) ≡ true) }
-        ensures { (d : ℕ) → Passed (λ k. a-value d ∷ k) (λ k. first ∷ k) (event a-number self.old.at) self.old self.new }
+        ensures { (d : ℕ) → Passed (λ k. a_value d ∷ k) (λ k. first ∷ k) (event a_number self.old.at) self.old self.new }
     {
         if self.text[self.at] == b'-' {
             self.at += 1;

@@ -2,7 +2,7 @@
 ghost use Rattle.std.specs.Prelude.{◌≡◌, ℕ, ◌<◌, ◌≤◌, true, false, ◌⊎◌, ◌∷◌, length, Ok, MatchResult, ◌≢◌};
 ghost use Rattle.text.specs.declared.fault.TextFault.TheVariants.{TooLong};
 ghost use Rattle.text.specs.Bytes.{white, digit};
-ghost use Rattle.text.specs.Machine.{member as a-member, members, entries, begin_object, begin_array, outcome};
+ghost use Rattle.text.specs.Machine.{member as a_member, members, entries, begin_object, begin_array, outcome};
 ghost use Rattle.text.specs.Ahead.{Reads, Opens, Inside, here, ReadsString, ReadsNumber, ReadsToken, ReadsTokenHere, ReadsValue, ReadsMembers, ReadsEntries, ReadsName, ReadsMember, ReadsEntry, Finishes};
 ghost use Rattle.text.specs.Grammar.{Text};
 ghost use Rattle.text.specs.Judged.{Judged};
@@ -182,7 +182,7 @@ impl<'a> Reader<'a> {
         requires inside { Inside self.old }
         requires is { white (here self.old) ≡ false }
         requires goes { here self.old ≢ 125 }
-        ensures { (d : ℕ) → Reads (λ k. members false d ∷ k) (λ k. a-member d ∷ k) self.old self.new result }
+        ensures { (d : ℕ) → Reads (λ k. members false d ∷ k) (λ k. a_member d ∷ k) self.old self.new result }
     {
         if self.text[self.at] == b',' {
             self.at += 1;
@@ -193,7 +193,7 @@ impl<'a> Reader<'a> {
 
     // A member's name and the colon after it.
     fn name(&mut self) -> Result<Placed<&'a [u8]>, TextFault>
-        ensures { ReadsName (λ d k. a-member d ∷ k) self.old self.new result }
+        ensures { ReadsName (λ d k. a_member d ∷ k) self.old self.new result }
     {
         self.blanks();
         if self.at >= self.text.len() || self.text[self.at] != b'"' {
