@@ -2,7 +2,7 @@
 ghost use Rattle.std.specs.Prelude.{◌≡◌, ◌≤◌, not, ◌&&◌, [], ◌∷◌, ◌++◌, length, if◌then◌else◌, vec_len, vec_capacity, MatchResult, nat_le};
 ghost use Rattle.names.specs.Numbers.{attribute_numbered, word_numbered};
 ghost use Rattle.lock.specs.Bans.{Bans, forbidden, locked, most_bans, word_ban, span_ban, room_for, either, PileBansTheUnion, PileInAnyOrder};
-ghost use Rattle.std.proofs.Common.{rules, arith};
+ghost use Rattle.std.proofs.Common.{rules};
 
 use crate::ban::{Ban, Forbidding};
 use names::{Attribute, PixelFormat, Source, Value, Word};
@@ -98,9 +98,9 @@ impl<S: Scanner> Scanner for Lock<S> {
 
     ghost state = { λ x. S.state x.below };
 
-    ghost home_source_offered = { first_of (Prim.search rules, Prim.grind (arith, Self.row.coded.inj)) };
+    ghost home_source_offered = { Prim.search rules };
 
-    ghost home_format_offered = { first_of (Prim.search rules, Prim.grind (arith, Self.row.coded.inj)) };
+    ghost home_format_offered = { Prim.search rules };
 
     fn offers_source(&self, source: Source) -> bool {
         self.below.offers_source(source)

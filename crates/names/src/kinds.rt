@@ -1,9 +1,9 @@
 // The sources, pixel formats, attributes and value words of the task language, numbered from 1 in this order.
-ghost use Rattle.std.specs.Prelude.{◌≡◌, ◌==◌};
+ghost use Rattle.std.specs.Prelude.{◌==◌};
 ghost use Rattle.names.specs.Codes.{attribute_code};
 ghost use Rattle.std.specs.Cmp.Rules.{comparing};
 ghost use Rattle.std.proofs.Common.{rules};
-ghost use Rattle.std.specs.Cmp as Keys;
+ghost use Rattle.std.specs.Cmp.{partial_equiv_from_equiv};
 
 // Where the sheets come from.
 #[derive(Clone, Copy, PartialEq, Eq, Debug)]
@@ -93,7 +93,7 @@ pub enum Word {
 impl PartialEq for Attribute {
     ghost eq = { λ a b. (attribute_code a == attribute_code b) };
 
-    ghost laws = { Keys.partial_equiv_from_equiv (Prim.search (comparing, rules)) };
+    ghost laws = { partial_equiv_from_equiv (Prim.search (comparing, rules)) };
 
     fn eq(&self, other: &Attribute) -> bool {
         *self as u8 == *other as u8

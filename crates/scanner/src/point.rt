@@ -1,5 +1,4 @@
 // An attribute of a pair of a source and a pixel format.
-ghost use Rattle.std.specs.Prelude.{◌≡◌};
 ghost use Rattle.scanner.specs.Meaning.{same_point};
 ghost use Rattle.scanner.specs.SamePoint.{same_point_equiv};
 ghost use Rattle.std.specs.Cmp.{partial_equiv_from_equiv};

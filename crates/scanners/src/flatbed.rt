@@ -3,7 +3,7 @@ ghost use Rattle.std.specs.Prelude.{◌≡◌, true, if◌then◌else◌, Some, 
 ghost use Rattle.names.specs.declared.kinds.Attribute.{Attribute};
 ghost use Rattle.names.specs.Same.{same_attribute};
 ghost use Rattle.scanner.specs.Meaning.{Agree, powered};
-ghost use Rattle.scanners.specs.Flatbed.{flatbed_catalogue, flatbed_pair, flatbed_state, settings_at, held_at, by_attribute, offered_resolution, offered_brightness, offered_compression};
+ghost use Rattle.scanners.specs.Flatbed.{flatbed_catalogue, flatbed_state, settings_at, held_at, by_attribute, offered_resolution, offered_brightness, offered_compression};
 ghost use Rattle.std.proofs.Common.{rules};
 
 use names::{Attribute, PixelFormat, Source, Value, Word};

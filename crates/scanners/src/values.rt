@@ -1,6 +1,5 @@
 // Values that an entry offers or a ban forbids.
-ghost use Rattle.std.specs.Prelude.{◌≡◌, Decides};
-ghost use Rattle.scanners.specs.Ranges.{Reached, in_range};
+ghost use Rattle.std.specs.Prelude.{◌≡◌};
 ghost use Rattle.scanners.specs.Values.{is_one_of};
 
 use crate::range::Range;

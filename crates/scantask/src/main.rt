@@ -1,7 +1,7 @@
 // Submits standard input to a new flatbed session, and prints the reply or the complaint.
 #![tactic(auto)]
 
-ghost use Rattle.std.specs.Prelude.{◌≡◌, ◌≤◌, length, IfOk};
+ghost use Rattle.std.specs.Prelude.{◌≤◌, length, IfOk};
 
 use anyhow::anyhow;
 use negotiation::PLAN_ROOM;

@@ -2,7 +2,7 @@
 ghost use Rattle.std.specs.Prelude.{◌≡◌, ◌<◌};
 ghost use Rattle.text.specs.Strings.{stands};
 ghost use Rattle.table.specs.Levels.{key_code, is_array_name};
-ghost use Rattle.table.specs.Words.{key_spelled, KeysApart};
+ghost use Rattle.table.specs.Words.{key_spelled};
 
 use names::position;
 

@@ -1,13 +1,12 @@
 // Reading a task: one pass over the text, an object and its array calling one another.
 ghost use Rattle.std.specs.Prelude.{◌≡◌, ℕ, ◌+◌, ◌-◌, ◌^◌, ◌<◌, ◌≤◌, true, false, List, ◌∷◌, length, Err, OnOk};
-ghost use Rattle.text.specs.Machine.{value as a_value, members as some_members, entries as some_entries};
+ghost use Rattle.text.specs.Machine.{value as a_value, entries as some_entries};
 ghost use Rattle.text.specs.Strings.{stands};
-ghost use Rattle.table.specs.Levels.{level_code};
 ghost use Rattle.table.specs.Words.{key_spelled};
 ghost use Rattle.table.specs.Drafts.{fresh};
 ghost use Rattle.table.specs.Form.{nothing, is_value_name, is_task};
 ghost use Rattle.table.specs.Verdict.{ReadsTask, HoldsTask};
-ghost use Rattle.table.specs.Works.{stored, absent_if, ReadsString, ReadsParts, ReadsObject, Reserved, Closes, Passes, at_members, at_array, at_value, at_entries, at_name};
+ghost use Rattle.table.specs.Works.{stored, absent_if, ReadsString, ReadsParts, ReadsObject, Reserved, Closes, Passes, at_members, at_array, at_entries, at_name};
 
 use crate::draft::Draft;
 use crate::fault::{FormRule, TableFault};

@@ -27,7 +27,7 @@ use Rattle.table_scanner.specs.Entries.{of_source, is_pair, at_point, offering, 
 use Rattle.table_scanner.specs.Bounds.{most_entries}
 use Rattle.table_scanner.specs.Device.{Device, start}
 use Rattle.table_scanner.specs.Filling.{Change, new_source, new_format, new_attribute, new_range, new_word, new_home, offer_of, is_word, ranges, missing, already, entries_of, with_pair, fault_of, unless_fault, carried_out, changed, after_call, read, Fills, Lawful, FillingKeepsTheLaws}
-use Rattle.table_scanner.specs.Lookups.{found_new, found_old, any_old}
+use Rattle.table_scanner.proofs.Lookups.{found_new, found_old, any_old}
 
 -- a call that no fault stops
 pub accepted : (d : Device) (c : Change) (new : Device) → fault_of d (Some c) ≡ None → new ≡ carried_out d c → Fills (Some c) d new (Ok tt)

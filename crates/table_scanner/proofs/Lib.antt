@@ -1,1 +1,3 @@
+mod Lookups
+mod Moves
 mod Fillings

@@ -3,5 +3,4 @@ pub mod Lookup
 pub mod Entries
 pub mod Device
 pub mod Filling
-pub mod Moves
-pub mod Lookups
+pub mod HomeOffered

@@ -101,12 +101,12 @@ mutual
     is_number : {d : ℕ} {t u : List ℕ} → Number t u → Value d t u
     is_string : {d : ℕ} {t u : List ℕ} → Str t u → Value d t u
 
-  -- after begin-object: [ member *( value-separator member ) ] end_object
+  -- after begin-object: [ member *( value-separator member ) ] end-object
   pub data Object : ℕ → List ℕ → List ℕ → Type 0 where
     object_none : {d : ℕ} {t u : List ℕ} → Mark 125 t u → Object d t u
     object_some : {d : ℕ} {t a u : List ℕ} → Member d t a → Members d a u → Object d t u
 
-  -- *( value-separator member ) end_object
+  -- *( value-separator member ) end-object
   pub data Members : ℕ → List ℕ → List ℕ → Type 0 where
     members_end : {d : ℕ} {t u : List ℕ} → Mark 125 t u → Members d t u
     members_more : {d : ℕ} {t a b u : List ℕ} → Mark 44 t a → Member d a b → Members d b u → Members d t u
@@ -115,12 +115,12 @@ mutual
   pub data Member : ℕ → List ℕ → List ℕ → Type 0 where
     member : {d : ℕ} {t a b u : List ℕ} → Str t a → Mark 58 a b → Value d b u → Member d t u
 
-  -- after begin-array: [ value *( value-separator value ) ] end_array
+  -- after begin-array: [ value *( value-separator value ) ] end-array
   pub data Array : ℕ → List ℕ → List ℕ → Type 0 where
     array_none : {d : ℕ} {t u : List ℕ} → Mark 93 t u → Array d t u
     array_some : {d : ℕ} {t a u : List ℕ} → Value d t a → Entries d a u → Array d t u
 
-  -- *( value-separator value ) end_array
+  -- *( value-separator value ) end-array
   pub data Entries : ℕ → List ℕ → List ℕ → Type 0 where
     entries_end : {d : ℕ} {t u : List ℕ} → Mark 93 t u → Entries d t u
     entries_more : {d : ℕ} {t a b u : List ℕ} → Mark 44 t a → Value d a b → Entries d b u → Entries d t u

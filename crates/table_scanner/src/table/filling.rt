@@ -1,5 +1,5 @@
 // The calls that fill a table scanner. Everything that has a name goes by its number, as a setup tool sends it.
-ghost use Rattle.std.specs.Prelude.{◌≡◌, ◌+◌, not, IfOk, Some, nat_le};
+ghost use Rattle.std.specs.Prelude.{◌≡◌, ◌+◌, IfOk, Some, nat_le};
 ghost use Rattle.scanners.specs.declared.values.Values.{Values};
 ghost use Rattle.table_scanner.specs.Bounds.{most_entries};
 ghost use Rattle.table_scanner.specs.Device.{device, catalogue_of, start};

@@ -2,8 +2,8 @@
 ghost use Rattle.std.specs.Prelude.{◌≡◌, map};
 ghost use Rattle.table_scanner.specs.Device.{catalogue_of, state_of};
 ghost use Rattle.table_scanner.specs.Entries.{off, restored};
-ghost use Rattle.table_scanner.specs.Moves.{home_offered};
-ghost use Rattle.std.proofs.Common.{rules, arith};
+ghost use Rattle.table_scanner.specs.HomeOffered.{home_offered};
+ghost use Rattle.std.proofs.Common.{rules};
 
 use crate::entry::{AtPoint, IsPair, OfSource, Offering, Pair, Setting};
 use crate::table::TableScanner;
@@ -34,7 +34,7 @@ impl Scanner for TableScanner {
 
     ghost state = { state_of };
 
-    ghost home_source_offered = { first_of (Prim.search rules, Prim.grind (arith, Self.row.coded.inj)) };
+    ghost home_source_offered = { Prim.search rules };
 
     ghost home_format_offered = { λ x s h. home_offered s x.pairs.items h };
 

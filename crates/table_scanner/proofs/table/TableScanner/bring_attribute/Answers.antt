@@ -6,7 +6,7 @@ use Rattle.scanners.proofs.Searches.{any_push}
 use Rattle.table_scanner.specs.Device.{device}
 use Rattle.table_scanner.specs.Entries.{at_point, Anchored}
 use Rattle.table_scanner.specs.Filling.{new_attribute}
-use Rattle.table_scanner.specs.Lookups.{found_any}
+use Rattle.table_scanner.proofs.Lookups.{found_any}
 use Rattle.table_scanner.proofs.Fillings.{accepted, listed, brings_attribute}
 use Rattle.table_scanner.proofs.table.TableScanner.bring_attribute.Goals as goal
 

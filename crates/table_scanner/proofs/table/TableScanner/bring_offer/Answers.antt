@@ -6,7 +6,7 @@ use Rattle.scanners.proofs.Searches.{any_push}
 use Rattle.table_scanner.specs.Device.{device}
 use Rattle.table_scanner.specs.Entries.{at_point, offering, Anchored}
 use Rattle.table_scanner.specs.Filling.{offer_of}
-use Rattle.table_scanner.specs.Lookups.{found_any}
+use Rattle.table_scanner.proofs.Lookups.{found_any}
 use Rattle.table_scanner.proofs.Fillings.{accepted, offer_fault, listed, brings_offer}
 use Rattle.table_scanner.proofs.table.TableScanner.bring_offer.Goals as goal
 

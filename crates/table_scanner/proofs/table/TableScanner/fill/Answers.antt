@@ -3,7 +3,7 @@ use Rattle.std.proofs.lemmas.List.{at_drop_more, at_drop_all}
 use Rattle.table_scanner.specs.Device.{device}
 use Rattle.table_scanner.specs.Filling.{all_given}
 use Rattle.table_scanner.proofs.Fillings.{keeps_the_laws}
-use Rattle.table_scanner.specs.Moves.{home_offered}
+use Rattle.table_scanner.specs.HomeOffered.{home_offered}
 use Rattle.table_scanner.proofs.table.TableScanner.fill.Goals as goal
 
 pub loop-call-preserved : goal.loop-call-preserved

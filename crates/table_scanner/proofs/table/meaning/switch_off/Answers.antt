@@ -2,7 +2,7 @@ use Rattle.std.proofs.lemmas.List.Edits.{map_over_more}
 use Rattle.std.proofs.lemmas.List.{get_or_default}
 use Rattle.std.proofs.Common.{◌<◌, length, arith}
 use Rattle.table_scanner.specs.Entries.{off}
-use Rattle.table_scanner.specs.Moves.{mapped_all}
+use Rattle.table_scanner.proofs.Moves.{mapped_all}
 use Rattle.table_scanner.proofs.table.meaning.switch_off.Goals as goal
 
 pub loop-pair-preserved : goal.loop-pair-preserved

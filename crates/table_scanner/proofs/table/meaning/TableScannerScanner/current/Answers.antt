@@ -1,6 +1,6 @@
 use Rattle.std.proofs.Common.{vec_items}
 use Rattle.table_scanner.specs.Entries.{at_point}
-use Rattle.table_scanner.specs.Moves.{part_some, part_none}
+use Rattle.table_scanner.proofs.Moves.{part_some, part_none}
 use Rattle.table_scanner.proofs.table.meaning.TableScannerScanner.current.Goals as goal
 
 pub returns-in-Some : goal.returns-in-Some

@@ -1,17 +1,20 @@
-use Rattle.std.proofs.Common.{◌≡◌, true, set, vec_items, unwrap_or, refl, ◌∙◌, rules}
+use Rattle.std.proofs.Common.{◌≡◌, Bool, true, set, vec_items, unwrap_or, refl, ◌∙◌, rules}
 use Rattle.names.specs.declared.kinds.PixelFormat.{PixelFormat}
 use Rattle.scanners.specs.Search.{any_of}
+use Rattle.table_scanner.specs.declared.entry.Pair.{Pair}
 use Rattle.table_scanner.specs.Device.{catalogue_of}
 use Rattle.table_scanner.specs.Entries.{of_source, is_pair}
-use Rattle.table_scanner.specs.Moves.{any_some, any_none, on_sources, on_formats, on_homes, on_switches}
+use Rattle.table_scanner.proofs.Moves.{any_some, any_none, sources_kept, on_sources, on_formats, on_homes, on_switches}
 use Rattle.table_scanner.proofs.table.meaning.TableScannerScanner.enable.Goals as goal
 
+-- whether the pair is enabled plays no part in which sources there are
 pub invariant_of-self : goal.invariant_of-self
 invariant_of-self c =
     let x = c.args.self.now in
-    let kept : any_of (of_source x.home) (set (vec_items x.pairs) c.in-Some.i (record { source = c.args.source; format = c.args.format; enabled = true })) ≡ true =
-    on_sources (vec_items x.pairs) _ c.in-Some.i c.args.source c.args.format c.as_slice.ensures.value c.in-Some.ensures x.home ∙ x.homed in
-    search rules
+    let pair : Bool → Pair = λ b. record { source = c.args.source; format = c.args.format; enabled = b } in
+    let kept : (b : Bool) → any_of (of_source x.home) (set (vec_items x.pairs) c.in-Some.i (pair b)) ≡ true =
+    λ b. sources_kept (vec_items x.pairs) _ c.in-Some.i c.args.source c.args.format c.as_slice.ensures.value c.in-Some.ensures b x.home ∙ x.homed in
+    search (rules, kept)
 
 pub returns-in-Some : goal.returns-in-Some
 returns-in-Some c =

@@ -1,6 +1,6 @@
 use Rattle.std.proofs.Common.{false, vec_items, unwrap_or, ap}
 use Rattle.table_scanner.specs.Entries.{is_pair}
-use Rattle.table_scanner.specs.Moves.{part_some, part_none}
+use Rattle.table_scanner.proofs.Moves.{part_some, part_none}
 use Rattle.table_scanner.proofs.table.meaning.TableScannerScanner.enabled.Goals as goal
 
 pub returns-in-Some : goal.returns-in-Some

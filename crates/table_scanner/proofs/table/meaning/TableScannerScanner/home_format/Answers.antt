@@ -1,7 +1,7 @@
 use Rattle.std.proofs.Common.{vec_items, unwrap_or, ap}
 use Rattle.names.specs.declared.kinds.PixelFormat.{PixelFormat}
 use Rattle.table_scanner.specs.Entries.{of_source}
-use Rattle.table_scanner.specs.Moves.{part_some, part_none}
+use Rattle.table_scanner.proofs.Moves.{part_some, part_none}
 use Rattle.table_scanner.proofs.table.meaning.TableScannerScanner.home_format.Goals as goal
 
 pub returns-in-Some : goal.returns-in-Some

@@ -1,7 +1,7 @@
 use Rattle.std.proofs.Common.{vec_items, sym, ap, ◌∙◌}
 use Rattle.scanners.specs.Search.{any_of}
 use Rattle.table_scanner.specs.Entries.{at_point}
-use Rattle.table_scanner.specs.Lookups.{found_any}
+use Rattle.table_scanner.proofs.Lookups.{found_any}
 use Rattle.table_scanner.proofs.table.meaning.TableScannerScanner.offers_attribute.Goals as goal
 
 pub returns : goal.returns

@@ -5,8 +5,8 @@ use Rattle.scanners.specs.Search.{any_of}
 use Rattle.table_scanner.specs.Device.{catalogue_of}
 use Rattle.table_scanner.specs.Lookup.{found}
 use Rattle.table_scanner.specs.Entries.{of_source, is_pair, at_point, off, restored, Anchored}
-use Rattle.table_scanner.specs.Lookups.{any_map, found_map}
-use Rattle.table_scanner.specs.Moves.{refilled_map, off_switches}
+use Rattle.table_scanner.proofs.Lookups.{any_map, found_map}
+use Rattle.table_scanner.proofs.Moves.{refilled_map, off_switches}
 use Rattle.table_scanner.proofs.table.meaning.TableScannerScanner.reset.Goals as goal
 
 pub invariant_of-self : goal.invariant_of-self

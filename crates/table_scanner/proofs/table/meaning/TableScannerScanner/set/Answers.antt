@@ -1,18 +1,20 @@
 use Rattle.std.proofs.Common.{◌≡◌, true, set, vec_items, sym, refl, ◌∙◌, rules}
 use Rattle.std.proofs.lemmas.Bool.{both_ways}
+use Rattle.names.specs.declared.kinds.Value.{Value}
 use Rattle.scanners.specs.Search.{any_of}
 use Rattle.table_scanner.specs.Device.{catalogue_of}
 use Rattle.table_scanner.specs.Entries.{at_point, offering, Anchored}
-use Rattle.table_scanner.specs.Moves.{any_none, taken_points, taken_initial, taken_current}
+use Rattle.table_scanner.proofs.Moves.{any_none, taken_points, taken_initial, taken_current}
 use Rattle.table_scanner.proofs.table.meaning.TableScannerScanner.set.Goals as goal
 
+-- whichever value is written, the offers still hang on a setting
 pub invariant_of-self : goal.invariant_of-self
 invariant_of-self c =
     let x = c.args.self.now in
     let old = c.index.result.now in
-    let kept : Anchored (set (vec_items x.settings) c.in-Some.i (record { point = c.args.point; initial = old.initial; current = c.args.value })) (vec_items x.offers) =
-    λ p v h. taken_points (vec_items x.settings) _ c.in-Some.i c.args.point c.args.value old c.as_slice.ensures.value c.in-Some.ensures c.index.ensures p ∙ x.anchored p v h in
-    search rules
+    let kept : (w : Value) → Anchored (set (vec_items x.settings) c.in-Some.i (record { point = c.args.point; initial = old.initial; current = w })) (vec_items x.offers) =
+    λ w p v h. taken_points (vec_items x.settings) _ c.in-Some.i c.args.point w old c.as_slice.ensures.value c.in-Some.ensures c.index.ensures p ∙ x.anchored p v h in
+    search (rules, kept)
 
 pub returns-in-Some : goal.returns-in-Some
 returns-in-Some c =

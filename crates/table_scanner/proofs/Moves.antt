@@ -4,11 +4,10 @@ use Rattle.std.proofs.Common.{sym, ap, subst, ◌∙◌, inl, inr}
 use Rattle.std.specs.Vec.{with_items}
 use Rattle.std.specs.Option.{unwrap_or}
 use Rattle.std.proofs.lemmas.List.{get_or_read, take_all, drop_all, append-nil, length-map, with_items_is}
-use Rattle.std.proofs.lemmas.Bool.{and_parts, and_from, or_cases, or_left, or_right, both_ways, eq-eqb, cases_Bool, cond-true, cond-false}
+use Rattle.std.proofs.lemmas.Bool.{and_parts, cases_Bool, cond-true, cond-false}
 use Rattle.names.specs.declared.kinds.Source.{Source}
 use Rattle.names.specs.declared.kinds.PixelFormat.{PixelFormat}
 use Rattle.names.specs.declared.kinds.Value.{Value}
-use Rattle.names.specs.Codes.{format_code}
 use Rattle.names.specs.Same.{same_source, same_format}
 use Rattle.scanner.specs.declared.point.Point.{Point}
 use Rattle.scanner.specs.Meaning.{same_point}
@@ -18,7 +17,7 @@ use Rattle.table_scanner.specs.declared.entry.Pair.{Pair}
 use Rattle.table_scanner.specs.declared.entry.Setting.{Setting}
 use Rattle.table_scanner.specs.Lookup.{found}
 use Rattle.table_scanner.specs.Entries.{of_source, is_pair, at_point, off}
-use Rattle.table_scanner.specs.Lookups.{found_none, found_at, found_any, found_set, found_set_off, found_set_at, any_set}
+use Rattle.table_scanner.proofs.Lookups.{found_none, found_at, found_any, found_set, found_set_off, found_set_at, any_set}
 
 -- what the search found, read off
 pub part_some : {X Y : Type 0} (test : X → Bool) (part : X → Y) (xs ys : List X) (i : ℕ) (x : X) → ys ≡ xs → FirstOf test ys (Some i) → x ≡ slice_index_or xs i x → Some (part x) ≡ found test part xs
@@ -54,8 +53,12 @@ module _ (xs ys : List Pair) (i : ℕ) (s : Source) (f : PixelFormat) (e : ys �
   same_pair : (a : Source) (g : PixelFormat) (d : Pair) → is_pair a g on ≡ is_pair a g (slice_index_or xs i d)
   same_pair a g d = λ j. same_source (sym (at_source d) j) a && same_format (sym (at_format d) j) g
 
+  -- whether it is enabled plays no part in which sources there are
+  pub sources_kept : (b : Bool) (a : Source) → any_of (of_source a) (slice_set xs i (record { source = s; format = f; enabled = b })) ≡ any_of (of_source a) xs
+  sources_kept b a = any_set (of_source a) (λ x. x) xs i (record { source = s; format = f; enabled = b }) (λ d. ap (λ z. same_source z a) (sym (at_source d)))
+
   pub on_sources : (a : Source) → any_of (of_source a) (slice_set xs i on) ≡ any_of (of_source a) xs
-  on_sources a = any_set (of_source a) (λ x. x) xs i on (λ d. ap (λ z. same_source z a) (sym (at_source d)))
+  on_sources a = sources_kept true a
 
   pub on_formats : (a : Source) (g : PixelFormat) → any_of (is_pair a g) (slice_set xs i on) ≡ any_of (is_pair a g) xs
   on_formats a g = any_set (is_pair a g) (λ x. x) xs i on (same_pair a g)
@@ -112,17 +115,6 @@ off_switches s f (x ∷ xs) = elim (is_pair s f x) as (λ b. unwrap_or (cond b (
 -- a loop that has mapped every entry
 pub mapped_all : {X : Type 0} (g : X → X) (xs ys : List X) (i : ℕ) → length xs ≤ i → ys ≡ map g (take i xs) ++ drop i xs → ys ≡ map g xs
 mapped_all g xs ys i le h = h ∙ (λ j. map g (take_all i xs le j) ++ drop_all i xs le j) ∙ append-nil (map g xs)
-
--- the first pair of an offered source has its home format
-pub home_offered : (s : Source) (xs : List Pair) → any_of (of_source s) xs ≡ true → any_of (is_pair s (unwrap_or (found (of_source s) (λ x. x.format) xs) PixelFormat.Gray8)) xs ≡ true
-home_offered s [] h = h
-home_offered s (x ∷ xs) h =
-    let rest = found (of_source s) (λ x. x.format) xs in
-    let Goal : Bool → Type 0 = λ b. any_of (is_pair s (unwrap_or (cond b (Some x.format) rest) PixelFormat.Gray8)) (x ∷ xs) ≡ true in
-    elim (cases_Bool (of_source s x)) [
-      | inl y ↦ subst Goal (sym y) (or_left _ _ (and_from _ _ y (eq-eqb (format_code x.format) _ refl)))
-      | inr n ↦ subst Goal (sym n) (or_right _ _ (home_offered s xs (elim (or_cases _ _ h) [ inl y ↦ absurd (both_ways _ n y) | inr r ↦ r ])))
-    ]
 
 -- a Vec whose entries were mapped in place
 pub refilled_map : {X Z : Type 0} (g : X → X) (v : Vec X Z) (ws : List X) → ws ≡ map g (vec_items v) → vec_items (with_items v ws) ≡ map g (vec_items v)
