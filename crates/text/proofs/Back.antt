@@ -2,7 +2,7 @@
 use Rattle.std.proofs.Common.{◌≡◌, ℕ, zero, suc, ◌+◌, ◌-◌, ◌^◌, ◌<◌, ◌≤◌, Bool, true, false, ◌&&◌, eqb, leb, List, [], ◌∷◌, ◌++◌, length, get_or, take, drop, ℤ, pos, negsuc, Some, None, Err, decimal, sym, refl, ap, ◌∙◌, add-one, arith}
 use Rattle.std.specs.Fmt.{signed_decimal}
 use Rattle.std.proofs.lemmas.Fmt.{decimal_digit, decimal_nonempty, first_decimal}
-use Rattle.std.proofs.lemmas.List.{drop-drop}
+use Rattle.std.proofs.lemmas.List.{drop-drop, take_at}
 use Rattle.std.proofs.lemmas.Bool.{cond-true, cond-false}
 use Rattle.std.proofs.lemmas.Bool.Decides.{nat_tests}
 use Rattle.text.specs.declared.fault.TextFault.TheVariants.{Forbidden}
@@ -22,10 +22,6 @@ past_is : (cs : List ℕ) (i : ℕ) → past cs i ≡ length cs + i
 past_is [] i = omega arith
 past_is (c ∷ cs) i = past_is cs (suc i) ∙ (omega arith)
 
-take_front : (xs ys : List ℕ) → take (length xs) (xs ++ ys) ≡ xs
-take_front [] ys = refl
-take_front (x ∷ xs) ys = ap (λ zs. x ∷ zs) (take_front xs ys)
-
 -- after a scalar nothing may come
 stop_run : (r : List ℕ) (i : ℕ) → ending (run r i (literal [] ∷ [])) ≡ Err (Forbidden i)
 unfolding run step over
@@ -42,7 +38,7 @@ word_part cs r s =
     let t = 34 ∷ (cs ++ 34 ∷ r) in
     let e : suc (past cs 1) ≡ 0 + extent t (value 0 ∷ literal [] ∷ []) = extent_run t 0 (suc (past cs 1)) (value 0 ∷ literal [] ∷ []) (ap ending (word_run cs r 0 0 (literal [] ∷ []) s) ∙ stop_run r (suc (past cs 1))) in
     let n : extent t (value 0 ∷ literal [] ∷ []) - 2 ≡ length cs = omega (arith, past_is cs 1) in
-    ap (λ m. take m (cs ++ 34 ∷ r)) n ∙ take_front cs (34 ∷ r)
+    ap (λ m. take m (cs ++ 34 ∷ r)) n ∙ take_at cs (34 ∷ r) _ refl
 
 letter_units : (cs : List ℕ) → Letters cs → units Unescaped cs ≡ cs
 unfolding units
@@ -67,7 +63,7 @@ integer_part z r h c =
     let t = signed_decimal z ++ r in
     let e : past (signed_decimal z) 0 ≡ 0 + extent t (value 0 ∷ literal [] ∷ []) = extent_run t 0 (past (signed_decimal z) 0) (value 0 ∷ literal [] ∷ []) (ap ending (integer_run z 0 0 (literal [] ∷ []) r h c) ∙ stop_run r (past (signed_decimal z) 0)) in
     let n : extent t (value 0 ∷ literal [] ∷ []) ≡ length (signed_decimal z) = omega (arith, past_is (signed_decimal z) 0) in
-    ap (λ m. take m t) n ∙ take_front (signed_decimal z) r
+    ap (λ m. take m t) n ∙ take_at (signed_decimal z) r _ refl
 
 -- digits without a zero before others are read as their number
 positive_back : (ds : List ℕ) (n : ℕ) → Figures ds → 0 < length ds → (get_or ds 0 0 ≡ 48 → 1 < length ds → ⊥) → read_on 0 ds ≡ Some n → n ≤ 2147483647 → integer_of ds ≡ Some (pos n)

@@ -339,7 +339,7 @@ module _ (d : ℕ) (k : List Frame) where
 
   first_by : (b : ℕ) (bs : List ℕ) (s : ℕ) (x y : Bool) → white b ≡ x → eqb b 93 ≡ y → (ending (run bs (suc s) (value d ∷ entries false d ∷ k)) ≡ Ok tt → ending (run bs (suc s) (entries true d ∷ k)) ≡ Ok tt) → ending (run (b ∷ bs) s (value d ∷ entries false d ∷ k)) ≡ Ok tt → ending (run (b ∷ bs) s (entries true d ∷ k)) ≡ Ok tt
   first_by b bs s true y e q ih a = ap ending (run_go b bs s _ _ (array_blank d k b e)) ∙ ih (sym (ap ending (run_go b bs s _ _ (value_blank d (entries false d ∷ k) b e))) ∙ a)
-  first_by b bs s false true e q ih a = absurd (let f = ap ending (run_forbidden b bs s _ (value_closing b q)) in let z : ◌≡◌ {A = ℕ} 0 1 = cc in omega arith)
+  first_by b bs s false true e q ih a = cc (ap ending (run_forbidden b bs s _ (value_closing b q)))
   first_by b bs s false false e q ih a = ap ending (run_like b bs s _ _ (first_byte b e q)) ∙ a
 
   -- the first entry of an array is a value like any other

@@ -26,7 +26,7 @@ magnitude_start (b ∷ c ∷ cs) h z = let n : (b ≡ 48 → ⊥) = λ e. z e (o
 
 push_by : (w : Bool) (b : ℕ) (bs cs : List ℕ) (m n k : ℕ) → digit b ≡ w → ((m : ℕ) → decimal m bs ≡ Some n → decimal m cs ≡ Some k) → decimal m (b ∷ bs) ≡ Some n → decimal m (b ∷ cs) ≡ Some k
 push_by true b bs cs m n k p h e = decimal_digit m b cs p ∙ h _ (sym (decimal_digit m b bs p) ∙ e)
-push_by false b bs cs m n k p h e = absurd (let q : None ≡ Some n = sym (decimal_other m b bs p) ∙ e in let z : ◌≡◌ {A = ℕ} 0 1 = cc in omega arith)
+push_by false b bs cs m n k p h e = let q : None ≡ Some n = sym (decimal_other m b bs p) ∙ e in cc
 
 -- one digit more at the end
 decimal_push : (bs : List ℕ) (m n d : ℕ) → d < 10 → decimal m bs ≡ Some n → decimal m (bs ++ (48 + d) ∷ []) ≡ Some (n * 10 + d)

@@ -9,7 +9,7 @@ use Rattle.text.specs.Ahead.{ahead, here, Inside, Passed, Halted}
 use Rattle.text.proofs.Steps.{run_go, run_says, run_forbidden, run_deep, bad_here, bad_end, SameEnding, passed_halted, on}
 
 over_offset : (i j : ℕ) (k : List Frame) (x : Bool) → over k ≡ x → ending (ends k i) ≡ Err (Forbidden j) → j ≡ i + 0
-over_offset i j k true q e = absurd (let f = ap ending (cond-true (over k) good (fault (Forbidden i)) q) in let z : ◌≡◌ {A = ℕ} 0 1 = cc in omega arith)
+over_offset i j k true q e = cc (ap ending (cond-true (over k) good (fault (Forbidden i)) q))
 over_offset i j k false q e = let f = ap ending (cond-false (over k) good (fault (Forbidden i)) q) in let h : j ≡ i = cc in omega arith
 
 by_step : (b : ℕ) (bs : List ℕ) (i j : ℕ) (k : List Frame) → ((l : List Frame) → ending (run bs (suc i) l) ≡ Err (Forbidden j) → j ≡ suc i + extent bs l) → (x : Step) → step k b ≡ x → ending (run (b ∷ bs) i k) ≡ Err (Forbidden j) → j ≡ i + extent (b ∷ bs) k
@@ -17,7 +17,7 @@ unfolding extent
 by_step b bs i j k ih (go l) q e = let h = ih l (sym (ap ending (run_go b bs i k l q)) ∙ e) in rw (q, extent) (omega arith)
 by_step b bs i j k ih (says n l) q e = let h = ih l (sym (ap ending (run_says b bs i n k l q)) ∙ e) in rw (q, extent) (omega arith)
 by_step b bs i j k ih forbidden q e = let f = ap ending (run_forbidden b bs i k q) in let h : j ≡ i = cc in rw (q, extent) (omega arith)
-by_step b bs i j k ih too_deep q e = let f = ap ending (run_deep b bs i k q) in absurd (let z : ◌≡◌ {A = ℕ} 0 1 = cc in omega arith)
+by_step b bs i j k ih too_deep q e = cc (ap ending (run_deep b bs i k q))
 
 -- a forbidden byte stands where the text no longer goes on
 pub extent_run : (t : List ℕ) (i j : ℕ) (k : List Frame) → ending (run t i k) ≡ Err (Forbidden j) → j ≡ i + extent t k
@@ -26,7 +26,7 @@ extent_run [] i j k e = over_offset i j k (over k) refl e
 extent_run (b ∷ bs) i j k e = by_step b bs i j k (λ l. extent_run bs (suc i) j l) (step k b) refl e
 
 -- nothing may come after a literal's last letter
-pub stop_here : (r : Reader) → Halted (λ k. literal [] ∷ k) r r (Forbidden r.at)
+stop_here : (r : Reader) → Halted (λ k. literal [] ∷ k) r r (Forbidden r.at)
 unfolding step over
 stop_here r = ⊎_elim (λ h. bad_here h refl (λ k. refl)) (λ h. bad_end h refl (λ k. refl)) (cases_lt r.at (length r.text.now))
 

@@ -38,7 +38,7 @@ forbidden_above t j zero e = e
 forbidden_above t j (suc d) e = (forbidden_from t 0 j (value (above d) ∷ []) (w_value rest_none) (forbidden_above t j d e)).higher
 
 not_both : {e : TextFault} {x : Result (Unit {0}) TextFault} → x ≡ Ok tt → x ≡ Err e → ⊥
-not_both p q = let z : ◌≡◌ {A = ℕ} 0 1 = cc in omega arith
+not_both p q = cc
 
 same_place : {n i j : ℕ} → n ≡ 0 + i → n ≡ 0 + j → i ≡ j
 same_place p q = omega arith
@@ -77,14 +77,14 @@ too_deep_at t j e =
 
 -- a run never finds a text too long
 long_end : (s : ℕ) (k : List Frame) (x : Bool) → over k ≡ x → ending (ends k s) ≡ Err TooLong → ⊥
-long_end s k true q e = let f = ap ending (cond-true (over k) good (fault (Forbidden s)) q) in let z : ◌≡◌ {A = ℕ} 0 1 = cc in omega arith
-long_end s k false q e = let f = ap ending (cond-false (over k) good (fault (Forbidden s)) q) in let z : ◌≡◌ {A = ℕ} 0 1 = cc in omega arith
+long_end s k true q e = cc (ap ending (cond-true (over k) good (fault (Forbidden s)) q))
+long_end s k false q e = cc (ap ending (cond-false (over k) good (fault (Forbidden s)) q))
 
 long_step : (b : ℕ) (bs : List ℕ) (s : ℕ) (k : List Frame) → ((l : List Frame) → ending (run bs (suc s) l) ≡ Err TooLong → ⊥) → (x : Step) → step k b ≡ x → ending (run (b ∷ bs) s k) ≡ Err TooLong → ⊥
 long_step b bs s k ih (go l) q e = ih l (sym (ap ending (run_go b bs s k l q)) ∙ e)
 long_step b bs s k ih (says n l) q e = ih l (sym (ap ending (run_says b bs s n k l q)) ∙ e)
-long_step b bs s k ih forbidden q e = let f = ap ending (run_forbidden b bs s k q) in let z : ◌≡◌ {A = ℕ} 0 1 = cc in omega arith
-long_step b bs s k ih too_deep q e = let f = ap ending (run_deep b bs s k q) in let z : ◌≡◌ {A = ℕ} 0 1 = cc in omega arith
+long_step b bs s k ih forbidden q e = cc (ap ending (run_forbidden b bs s k q))
+long_step b bs s k ih too_deep q e = cc (ap ending (run_deep b bs s k q))
 
 never_long : (t : List ℕ) (s : ℕ) (k : List Frame) → ending (run t s k) ≡ Err TooLong → ⊥
 unfolding run

@@ -1,5 +1,6 @@
 -- Units compared one by one.
-use Rattle.std.proofs.Common.{◌≡◌, ℕ, suc, ◌+◌, ◌<◌, ◌≤◌, Bool, true, false, ◌&&◌, eqb, List, [], ◌∷◌, map, length, get_or, drop, Some, None, sym, refl, ap, ◌∙◌, add-one, arith, drop-cons, eq-eqb}
+use Rattle.std.proofs.Common.{◌≡◌, ℕ, suc, ◌+◌, ◌<◌, ◌≤◌, Bool, true, false, not, ◌&&◌, eqb, List, [], ◌∷◌, map, length, get_or, drop, Some, None, Option, MatchOption, is_some, Bor, sym, refl, ap, ◌∙◌, arith, eq-eqb}
+use Rattle.std.proofs.lemmas.List.{drop_all, drop_more}
 use Rattle.std.proofs.lemmas.Bool.Decides.{nat_tests}
 use Rattle.std.proofs.lemmas.Bool.{cond-true, cond-false}
 use Rattle.text.specs.Strings.{adds, goes, before, units, high, low, pair, joined, paired, Tells, matching, alike}
@@ -7,10 +8,10 @@ use Rattle.text.specs.declared.string.Mode.{Mode}
 
 next : (m : Mode) (xs : List ℕ) (i : ℕ) → i < length xs → units m (drop i xs) ≡ before (adds m (get_or xs i 0)) (units (goes m (get_or xs i 0)) (drop (i + 1) xs))
 unfolding units
-next m xs i h = rw (add-one, drop-cons xs i 0 h) refl
+next m xs i h = rw (drop_more xs i 0 h) refl
 
 -- a byte that completes a unit
-pub unit_some : (m : Mode) (xs : List ℕ) (i u : ℕ) → i < length xs → adds m (get_or xs i 0) ≡ Some u → units m (drop i xs) ≡ u ∷ units (goes m (get_or xs i 0)) (drop (i + 1) xs)
+unit_some : (m : Mode) (xs : List ℕ) (i u : ℕ) → i < length xs → adds m (get_or xs i 0) ≡ Some u → units m (drop i xs) ≡ u ∷ units (goes m (get_or xs i 0)) (drop (i + 1) xs)
 unit_some m xs i u h a = rw (next m xs i h, a) refl
 
 -- a byte that completes none
@@ -24,6 +25,31 @@ match_true f u us v vs e = rw (e, matching) refl
 pub match_false : (f : Bool) (u : ℕ) (us : List ℕ) (v : ℕ) (vs : List ℕ) → alike f u v ≡ false → matching f (u ∷ us) (v ∷ vs) ≡ false
 unfolding matching
 match_false f u us v vs e = rw (e, matching) refl
+
+-- a byte of a string that completes the unit u, and the letters of a name that are left
+module _ (f : Bool) (raw : List ℕ) (m : Mode) (i u : ℕ) (inside : i < length raw) (unit : adds m (get_or raw i 0) ≡ Some u) where
+  pub same : (v : ℕ) (vs ns : List ℕ) → ns ≡ v ∷ vs → alike f u v ≡ true → matching f (units m (drop i raw)) ns ≡ matching f (units (goes m (get_or raw i 0)) (drop (i + 1) raw)) vs
+  same v vs ns q e = rw (unit_some m raw i u inside unit, q) (match_true f u _ v vs e)
+
+  pub other : (v : ℕ) (vs ns : List ℕ) → ns ≡ v ∷ vs → alike f u v ≡ false → matching f (units m (drop i raw)) ns ≡ false
+  other v vs ns q e = rw (unit_some m raw i u inside unit, q) (match_false f u _ v vs e)
+
+  pub too_many : (ns : List ℕ) → length ns ≡ 0 → matching f (units m (drop i raw)) ns ≡ false
+  unfolding matching
+  too_many [] e = rw (unit_some m raw i u inside unit) refl
+  too_many (v ∷ vs) e = absurd (omega arith)
+
+is_not : (b x : Bool) → x ≡ not b → b ≡ not x
+is_not true x e = rw e refl
+is_not false x e = rw e refl
+
+-- after the last byte no letter may be left
+pub ended : (f : Bool) (raw : List ℕ) (m : Mode) (i : ℕ) → length raw ≤ i → (ns vs : List ℕ) (r : Option (Bor ℕ)) (P : Type 0) → MatchOption r ((length ns ≡ 0) × P) (λ x. ns ≡ x.now ∷ vs) → (b : Bool) → is_some r ≡ not b → b ≡ matching f (units m (drop i raw)) ns
+unfolding units matching
+ended f raw m i h [] vs None P q b e = rw (drop_all i raw h) (is_not b false e)
+ended f raw m i h (v ∷ ns) vs None P q b e = absurd (omega arith)
+ended f raw m i h [] vs (Some x) P q b e = cc
+ended f raw m i h (v ∷ ns) vs (Some x) P q b e = rw (drop_all i raw h) (is_not b true e)
 
 -- no byte is like a unit beyond them
 beyond : (f : Bool) (u v : ℕ) → 384 ≤ u → v < 256 → alike f u v ≡ false
@@ -48,7 +74,7 @@ by_unit f true u us vs n ns e h = match_true f u us n ns e ∙ h ∙ sym (match_
 by_unit f false u us vs n ns e h = match_false f u us n ns e ∙ sym (match_false f u vs n ns e)
 
 -- a name of bytes is matched by the units as it is by the characters
-pub paired_matching : (f : Bool) (us ns : List ℕ) → ((i : ℕ) → get_or ns i 0 < 256) → matching f (paired us) ns ≡ matching f us ns
+paired_matching : (f : Bool) (us ns : List ℕ) → ((i : ℕ) → get_or ns i 0 < 256) → matching f (paired us) ns ≡ matching f us ns
 unfolding paired matching
 paired_matching f [] ns b = refl
 paired_matching f (u ∷ us) [] b = join_matching f u (paired us) [] b
@@ -62,20 +88,20 @@ module _ (f : Bool) (g : ℕ → ℕ) (key : (u v : ℕ) → alike f u v ≡ eqb
       let h : g u ≡ g v = grind (arith, nat_tests) in
       let t = ih (sym (match_true f u us v vs q) ∙ e) in
       cc
-  by_key false u v us vs q e ih = absurd (let t = match_false f u us v vs q in let z : ◌≡◌ {A = ℕ} 0 1 = cc in omega arith)
+  by_key false u v us vs q e ih = cc (match_false f u us v vs q)
 
   equal_keys : (us vs : List ℕ) → matching f us vs ≡ true → map g us ≡ map g vs
   unfolding matching
   equal_keys [] [] e = refl
-  equal_keys [] (v ∷ vs) e = absurd (let z : ◌≡◌ {A = ℕ} 0 1 = cc in omega arith)
-  equal_keys (u ∷ us) [] e = absurd (let z : ◌≡◌ {A = ℕ} 0 1 = cc in omega arith)
+  equal_keys [] (v ∷ vs) e = cc
+  equal_keys (u ∷ us) [] e = cc
   equal_keys (u ∷ us) (v ∷ vs) e = by_key (alike f u v) u v us vs refl e (equal_keys us vs)
 
   keys_equal : (us vs : List ℕ) → map g us ≡ map g vs → matching f us vs ≡ true
   unfolding matching
   keys_equal [] [] e = refl
-  keys_equal [] (v ∷ vs) e = absurd (let z : ◌≡◌ {A = ℕ} 0 1 = cc in omega arith)
-  keys_equal (u ∷ us) [] e = absurd (let z : ◌≡◌ {A = ℕ} 0 1 = cc in omega arith)
+  keys_equal [] (v ∷ vs) e = cc
+  keys_equal (u ∷ us) [] e = cc
   keys_equal (u ∷ us) (v ∷ vs) e =
       let h : g u ≡ g v = cc in
       let t : map g us ≡ map g vs = cc in
@@ -86,7 +112,3 @@ module _ (f : Bool) (g : ℕ → ℕ) (key : (u v : ℕ) → alike f u v ≡ eqb
     holds = λ t. equal_keys (paired us) ns (paired_matching f us ns b ∙ sym e ∙ t);
     told = λ t. e ∙ sym (paired_matching f us ns b) ∙ keys_equal (paired us) ns t;
   }
-
-pub map_same : (xs : List ℕ) → map (λ x. x) xs ≡ xs
-map_same [] = refl
-map_same (x ∷ xs) = ap (λ ys. x ∷ ys) (map_same xs)

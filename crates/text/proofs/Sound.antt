@@ -52,25 +52,25 @@ record Sound (b : ℕ) (k : List Frame) (x : Step) : Type 0 where
 go_sound : {b : ℕ} {k l : List Frame} → ((bs : List ℕ) → Fits l bs → Fits k (b ∷ bs)) → Sound b k (go l)
 go_sound {b} {k} {l} h = record {
   gone = λ m bs e f. let q : m ≡ l = cc in h bs (subst (λ o. Fits o bs) q f);
-  said = λ n m bs e f. absurd (let z : ◌≡◌ {A = ℕ} 0 1 = cc in omega arith);
+  said = λ n m bs e f. cc;
 }
 
 says_sound : {b : ℕ} {k l : List Frame} {n : Kind} → ((bs : List ℕ) → Fits l bs → Fits k (b ∷ bs)) → Sound b k (says n l)
 says_sound {b} {k} {l} h = record {
-  gone = λ m bs e f. absurd (let z : ◌≡◌ {A = ℕ} 0 1 = cc in omega arith);
+  gone = λ m bs e f. cc;
   said = λ n m bs e f. let q : m ≡ l = cc in h bs (subst (λ o. Fits o bs) q f);
 }
 
 stop_sound : {b : ℕ} {k : List Frame} → Sound b k forbidden
 stop_sound = record {
-  gone = λ m bs e f. absurd (let z : ◌≡◌ {A = ℕ} 0 1 = cc in omega arith);
-  said = λ n m bs e f. absurd (let z : ◌≡◌ {A = ℕ} 0 1 = cc in omega arith);
+  gone = λ m bs e f. cc;
+  said = λ n m bs e f. cc;
 }
 
 deep_sound : {b : ℕ} {k : List Frame} → Sound b k too_deep
 deep_sound = record {
-  gone = λ m bs e f. absurd (let z : ◌≡◌ {A = ℕ} 0 1 = cc in omega arith);
-  said = λ n m bs e f. absurd (let z : ◌≡◌ {A = ℕ} 0 1 = cc in omega arith);
+  gone = λ m bs e f. cc;
+  said = λ n m bs e f. cc;
 }
 
 both : {b : ℕ} {k : List Frame} (c : Bool) {x y : Step} → (c ≡ true → Sound b k x) → (c ≡ false → Sound b k y) → Sound b k (cond c x y)
@@ -340,31 +340,31 @@ nothing exponent t = after_exponent
 over_fits : (k : List Frame) → over k ≡ true → Fits k []
 unfolding over
 over_fits [] e = fits_end ws_none
-over_fits (value d ∷ k) e = absurd (let z : ◌≡◌ {A = ℕ} 0 1 = cc in omega arith)
-over_fits (first ∷ k) e = absurd (let z : ◌≡◌ {A = ℕ} 0 1 = cc in omega arith)
+over_fits (value d ∷ k) e = cc
+over_fits (first ∷ k) e = cc
 over_fits (digits p ∷ k) e = fits (l_digits digits_none (nothing p [])) (over_fits k e)
-over_fits (digit1 p ∷ k) e = absurd (let z : ◌≡◌ {A = ℕ} 0 1 = cc in omega arith)
-over_fits (sign ∷ k) e = absurd (let z : ◌≡◌ {A = ℕ} 0 1 = cc in omega arith)
+over_fits (digit1 p ∷ k) e = cc
+over_fits (sign ∷ k) e = cc
 over_fits (after p ∷ k) e = fits (l_after (nothing p [])) (over_fits k e)
-over_fits (chars ∷ k) e = absurd (let z : ◌≡◌ {A = ℕ} 0 1 = cc in omega arith)
-over_fits (escape ∷ k) e = absurd (let z : ◌≡◌ {A = ℕ} 0 1 = cc in omega arith)
-over_fits (hex n ∷ k) e = absurd (let z : ◌≡◌ {A = ℕ} 0 1 = cc in omega arith)
-over_fits (tail lo hi n ∷ k) e = absurd (let z : ◌≡◌ {A = ℕ} 0 1 = cc in omega arith)
-over_fits (literal cs ∷ k) e = absurd (let z : ◌≡◌ {A = ℕ} 0 1 = cc in omega arith)
-over_fits (member d ∷ k) e = absurd (let z : ◌≡◌ {A = ℕ} 0 1 = cc in omega arith)
-over_fits (colon d ∷ k) e = absurd (let z : ◌≡◌ {A = ℕ} 0 1 = cc in omega arith)
-over_fits (members g d ∷ k) e = absurd (let z : ◌≡◌ {A = ℕ} 0 1 = cc in omega arith)
-over_fits (entries g d ∷ k) e = absurd (let z : ◌≡◌ {A = ℕ} 0 1 = cc in omega arith)
+over_fits (chars ∷ k) e = cc
+over_fits (escape ∷ k) e = cc
+over_fits (hex n ∷ k) e = cc
+over_fits (tail lo hi n ∷ k) e = cc
+over_fits (literal cs ∷ k) e = cc
+over_fits (member d ∷ k) e = cc
+over_fits (colon d ∷ k) e = cc
+over_fits (members g d ∷ k) e = cc
+over_fits (entries g d ∷ k) e = cc
 
 at_end : (s : ℕ) (k : List Frame) (x : Bool) → over k ≡ x → ending (ends k s) ≡ Ok tt → Fits k []
 at_end s k true q e = over_fits k q
-at_end s k false q e = absurd (let f = ap ending (cond-false (over k) good (fault (Forbidden s)) q) in let z : ◌≡◌ {A = ℕ} 0 1 = cc in omega arith)
+at_end s k false q e = cc (ap ending (cond-false (over k) good (fault (Forbidden s)) q))
 
 by_step : (b : ℕ) (bs : List ℕ) (s : ℕ) (k : List Frame) → ((l : List Frame) → ending (run bs (suc s) l) ≡ Ok tt → Fits l bs) → (x : Step) → step k b ≡ x → ending (run (b ∷ bs) s k) ≡ Ok tt → Fits k (b ∷ bs)
 by_step b bs s k ih (go l) q e = (step_sound k b).gone l bs q (ih l (sym (ap ending (run_go b bs s k l q)) ∙ e))
 by_step b bs s k ih (says n l) q e = (step_sound k b).said n l bs q (ih l (sym (ap ending (run_says b bs s n k l q)) ∙ e))
-by_step b bs s k ih forbidden q e = absurd (let f = ap ending (run_forbidden b bs s k q) in let z : ◌≡◌ {A = ℕ} 0 1 = cc in omega arith)
-by_step b bs s k ih too_deep q e = absurd (let f = ap ending (run_deep b bs s k q) in let z : ◌≡◌ {A = ℕ} 0 1 = cc in omega arith)
+by_step b bs s k ih forbidden q e = cc (ap ending (run_forbidden b bs s k q))
+by_step b bs s k ih too_deep q e = cc (ap ending (run_deep b bs s k q))
 
 run_fits : (t : List ℕ) (s : ℕ) (k : List Frame) → ending (run t s k) ≡ Ok tt → Fits k t
 unfolding run

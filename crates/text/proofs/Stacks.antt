@@ -155,26 +155,26 @@ reachable_goes b (w_array {d} r) = both (white b) (g_go (w_array r)) (both (eqb 
 
 if_go : {x y : Step} → Goes x y → (m : List Frame) → x ≡ go m → Reachable m × (y ≡ go (up m))
 if_go (g_go {l} w) m e = let q : l ≡ m = cc in (subst Reachable q w, ap (λ n. go (up n)) q)
-if_go (g_says w) m e = absurd (let z : ◌≡◌ {A = ℕ} 0 1 = cc in omega arith)
-if_go g_stop m e = absurd (let z : ◌≡◌ {A = ℕ} 0 1 = cc in omega arith)
-if_go (g_deep w) m e = absurd (let z : ◌≡◌ {A = ℕ} 0 1 = cc in omega arith)
+if_go (g_says w) m e = cc
+if_go g_stop m e = cc
+if_go (g_deep w) m e = cc
 
 if_says : {x y : Step} → Goes x y → (j : Kind) (m : List Frame) → x ≡ says j m → Reachable m × (y ≡ says j (up m))
-if_says (g_go w) j m e = absurd (let z : ◌≡◌ {A = ℕ} 0 1 = cc in omega arith)
+if_says (g_go w) j m e = cc
 if_says (g_says {n} {l} w) j m e = let q : l ≡ m = cc in let i : n ≡ j = cc in (subst Reachable q w, ap (λ o. says o (up l)) i ∙ ap (λ o. says j (up o)) q)
-if_says g_stop j m e = absurd (let z : ◌≡◌ {A = ℕ} 0 1 = cc in omega arith)
-if_says (g_deep w) j m e = absurd (let z : ◌≡◌ {A = ℕ} 0 1 = cc in omega arith)
+if_says g_stop j m e = cc
+if_says (g_deep w) j m e = cc
 
 if_forbidden : {x y : Step} → Goes x y → x ≡ forbidden → y ≡ forbidden
-if_forbidden (g_go w) e = absurd (let z : ◌≡◌ {A = ℕ} 0 1 = cc in omega arith)
-if_forbidden (g_says w) e = absurd (let z : ◌≡◌ {A = ℕ} 0 1 = cc in omega arith)
+if_forbidden (g_go w) e = cc
+if_forbidden (g_says w) e = cc
 if_forbidden g_stop e = refl
-if_forbidden (g_deep w) e = absurd (let z : ◌≡◌ {A = ℕ} 0 1 = cc in omega arith)
+if_forbidden (g_deep w) e = cc
 
 if_deep : {x y : Step} → Goes x y → x ≡ too_deep → (n : Kind) × (l : List Frame) × Reachable l × (y ≡ says n l)
-if_deep (g_go w) e = absurd (let z : ◌≡◌ {A = ℕ} 0 1 = cc in omega arith)
-if_deep (g_says w) e = absurd (let z : ◌≡◌ {A = ℕ} 0 1 = cc in omega arith)
-if_deep g_stop e = absurd (let z : ◌≡◌ {A = ℕ} 0 1 = cc in omega arith)
+if_deep (g_go w) e = cc
+if_deep (g_says w) e = cc
+if_deep g_stop e = cc
 if_deep (g_deep {n} {l} w) e = (n, l, w, refl)
 
 over_up : {k : List Frame} → Rest k → over (up k) ≡ over k
@@ -306,7 +306,7 @@ pub record ForbiddenFrom (t : List ℕ) (s j : ℕ) (k : List Frame) : Type 0 wh
 
 forbidden_end : (s j : ℕ) (k : List Frame) (x : Bool) → Reachable k → over k ≡ x → ending (run [] s k) ≡ Err (Forbidden j) → ForbiddenFrom [] s j k
 unfolding run
-forbidden_end s j k true w q e = absurd (let f = ap ending (cond-true (over k) good (fault (Forbidden s)) q) in let z : ◌≡◌ {A = ℕ} 0 1 = cc in omega arith)
+forbidden_end s j k true w q e = cc (ap ending (cond-true (over k) good (fault (Forbidden s)) q))
 forbidden_end s j k false w q e =
     let f = ap ending (cond-false (over k) good (fault (Forbidden s)) q) in
     let h : j ≡ s = cc in
@@ -343,7 +343,7 @@ forbidden_step b bs s j k w ih forbidden q e =
     let h : j ≡ s = cc in
     let g = ap ending (run_forbidden b bs s (up k) (if_forbidden (reachable_goes b w) q)) in
     record { i = 0; at = omega arith; within = omega arith; u = (completion w).left; live = (completion w).good_end s; dead = λ l v. ap ending (run_forbidden b v s k q) ∙ sym f ∙ e; higher = cc }
-forbidden_step b bs s j k w ih too_deep q e = absurd (let f = ap ending (run_deep b bs s k q) in let z : ◌≡◌ {A = ℕ} 0 1 = cc in omega arith)
+forbidden_step b bs s j k w ih too_deep q e = cc (ap ending (run_deep b bs s k q))
 
 pub forbidden_from : (t : List ℕ) (s j : ℕ) (k : List Frame) → Reachable k → ending (run t s k) ≡ Err (Forbidden j) → ForbiddenFrom t s j k
 forbidden_from [] s j k w e = forbidden_end s j k (over k) w refl e
@@ -363,8 +363,8 @@ pub record TooDeepFrom (t : List ℕ) (s j : ℕ) (k : List Frame) : Type 0 wher
 
 deep_end : (s j : ℕ) (k : List Frame) (x : Bool) → over k ≡ x → ending (run [] s k) ≡ Err (TooDeep j) → ⊥
 unfolding run
-deep_end s j k true q e = let f = ap ending (cond-true (over k) good (fault (Forbidden s)) q) in let z : ◌≡◌ {A = ℕ} 0 1 = cc in omega arith
-deep_end s j k false q e = let f = ap ending (cond-false (over k) good (fault (Forbidden s)) q) in let z : ◌≡◌ {A = ℕ} 0 1 = cc in omega arith
+deep_end s j k true q e = cc (ap ending (cond-true (over k) good (fault (Forbidden s)) q))
+deep_end s j k false q e = cc (ap ending (cond-false (over k) good (fault (Forbidden s)) q))
 
 deep_step : (b : ℕ) (bs : List ℕ) (s j : ℕ) (k : List Frame) → Reachable k → ((l : List Frame) → Reachable l → ending (run bs (suc s) l) ≡ Err (TooDeep j) → TooDeepFrom bs (suc s) j l) → (x : Step) → step k b ≡ x → ending (run (b ∷ bs) s k) ≡ Err (TooDeep j) → TooDeepFrom (b ∷ bs) s j k
 deep_step b bs s j k w ih (go l) q e =
@@ -393,7 +393,7 @@ deep_step b bs s j k w ih (says n l) q e =
       higher = ap ending (run_says b (take (suc p.i) bs ++ p.v) s n (up k) (up l) g.1) ∙ p.higher;
       dead = λ v. ap ending (run_says b (take (suc p.i) bs ++ v) s n k l q) ∙ p.dead v;
     }
-deep_step b bs s j k w ih forbidden q e = absurd (let f = ap ending (run_forbidden b bs s k q) in let z : ◌≡◌ {A = ℕ} 0 1 = cc in omega arith)
+deep_step b bs s j k w ih forbidden q e = cc (ap ending (run_forbidden b bs s k q))
 deep_step b bs s j k w ih too_deep q e =
     let f = ap ending (run_deep b bs s k q) in
     let h : j ≡ s = cc in

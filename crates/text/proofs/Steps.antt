@@ -1,14 +1,13 @@
 -- How the contracts of one byte, of none and of a fault are met, and how they join.
-use Rattle.std.proofs.Common.{◌≡◌, ℕ, zero, suc, ◌+◌, ◌-◌, ◌<◌, ◌≤◌, false, List, ◌∷◌, length, get_or, drop, IsErrAnd, IfOk, Ok, Err, Result, sym, refl, ap, ◌∙◌, ⊎_elim, add-one, sub-one, arith, drop-cons}
-use Rattle.std.proofs.lemmas.List.{drop_all}
-use Rattle.std.proofs.lemmas.Bool.{cases_lt, cond-false}
-use Rattle.std.proofs.lemmas.Bool.Decides.{nat_tests}
+use Rattle.std.proofs.Common.{◌≡◌, ℕ, zero, suc, ◌+◌, ◌-◌, ◌<◌, ◌≤◌, Bool, true, false, cond, Option, Some, None, is_some, MatchOption, List, ◌∷◌, length, get_or, drop, IsErrAnd, IfOk, Ok, Err, Result, sym, refl, ap, ◌∙◌, ⊎_elim, add-one, sub-one, arith, drop-cons}
+use Rattle.std.proofs.lemmas.List.{drop_all, drop_more}
+use Rattle.std.proofs.lemmas.Bool.{cases_lt, cond-true, cond-false}
 use Rattle.text.specs.declared.reader.Reader.{Reader}
 use Rattle.text.specs.declared.fault.TextFault.{TextFault}
 use Rattle.text.specs.declared.fault.TextFault.TheVariants.{Forbidden, TooDeep}
-use Rattle.text.specs.Bytes.{digit}
-use Rattle.text.specs.Machine.{Frame, Part, Kind, chars, digits, after, tail, tails, lead, literal, letters, go, says, forbidden, too_deep, Tape, fault, event, ending, step, over, ends, run}
-use Rattle.text.specs.Ahead.{ahead, here, Inside, Stack, Passed, Onward, Halted, Reads}
+use Rattle.text.specs.Bytes.{white, digit}
+use Rattle.text.specs.Machine.{Frame, Part, Kind, digits, after, tail, tails, hex, hexes, literal, letters, Step, go, says, forbidden, too_deep, Tape, fault, event, ending, step, over, ends, run}
+use Rattle.text.specs.Ahead.{ahead, here, Inside, Stack, Passed, Onward, Halted, Reads, Answer, ByteRead, ByteLeft, Accepts, Expects}
 
 pub run_go : (b : ℕ) (bs : List ℕ) (i : ℕ) (k l : List Frame) → step k b ≡ go l → run (b ∷ bs) i k ≡ run bs (suc i) l
 unfolding run
@@ -76,10 +75,6 @@ module _ {f g : Stack} where
     runs = λ k. ⊎_elim (λ h. like r (f k) (g k) (e h k) h) (λ h. ahead_end r (f k) h ∙ rw (q k) (sym (ahead_end r (g k) h))) (cases_lt r.at (length r.text.now));
   }
 
-  -- the same, where a byte is known to stand here
-  pub alike_in : {r : Reader} → Inside r → ((k : List Frame) → step (f k) (here r) ≡ step (g k) (here r)) → Onward f g r r
-  alike_in {r} h e = record { same = refl; forth = omega arith; runs = λ k. like r (f k) (g k) (e k) h }
-
   -- no byte, but the event of the byte that stands here
   pub announced : {r : Reader} (n : Kind) (h : Stack) → Inside r → ((k : List Frame) → step (f k) (here r) ≡ says n (h k)) → ((k : List Frame) → step (g k) (here r) ≡ go (h k)) → Passed f g (event n r.at) r r
   announced {r} n h i e q = record { same = refl; forth = omega arith; runs = λ k. like_says r n (f k) (g k) (h k) (e k) (q k) i }
@@ -100,6 +95,59 @@ module _ {f : Stack} where
 pub stay : {f : Stack} {r : Reader} → Onward f f r r
 stay {f} {r} = record { same = refl; forth = omega arith; runs = λ k. refl }
 
+pub stayed : {f : Stack} {r s : Reader} → s ≡ r → Onward f f r s
+stayed e = rw e stay
+
+-- a byte that was passed
+pub byte_on : {f g : Stack} {test : Answer} {r s : Reader} → ByteRead test r s → ((k : List Frame) → step (f k) (here r) ≡ go (g k)) → Onward f g r s
+byte_on p e = one p.inside p.same p.next e
+
+-- a byte that stands here is told
+pub told : (r : Reader) (o : Option ℕ) → MatchOption o (length r.text.now ≤ r.at) (λ b. Inside r × (here r ≡ b)) → is_some o ≡ false → Inside r → ⊥
+told r (Some b) p e i = cc
+told r None p e i = omega arith
+
+-- a test answers as p does
+abbrev pub Answers : Answer → (ℕ → Bool) → Type 0
+Answers test p = (b : ℕ) (x : Bool) → test b x → p b ≡ x
+
+pub met : (p : ℕ → Bool) {test : Answer} {r s : Reader} → ByteRead test r s → Answers test p → p (here r) ≡ true
+met p q a = a _ _ q.meets
+
+-- where a byte with p leads from f to g, and one was passed
+pub took : {f g : Stack} (p : ℕ → Bool) (other : List Frame → Step) {test : Answer} {r s : Reader} → ByteRead test r s → Answers test p → ((k : List Frame) → step (f k) (here r) ≡ cond (p (here r)) (go (g k)) (other k)) → Onward f g r s
+took p other {r = r} q a h = byte_on q (λ k. h k ∙ cond-true (p (here r)) _ _ (a _ _ q.meets))
+
+-- where any byte but one with p does as on g, and none was passed
+pub kept : {f g : Stack} (p : ℕ → Bool) (other : List Frame → Step) {test : Answer} {r s : Reader} → ByteLeft test r s → Answers test p → ((k : List Frame) → step (f k) (here r) ≡ cond (p (here r)) (other k) (step (g k) (here r))) → ((k : List Frame) → over (f k) ≡ over (g k)) → Onward f g r s
+kept p other {r = r} q a h o = rw q.stays (alike (λ i k. h k ∙ cond-false (p (here r)) _ _ (a _ _ (q.fails i))) o)
+
+-- a byte with p may stand here or be left out
+pub optional : {f g : Stack} (p : ℕ → Bool) {test : Answer} {r s : Reader} (x : Bool) → Accepts test r s x → Answers test p → ((k : List Frame) → step (f k) (here r) ≡ cond (p (here r)) (go (g k)) (step (g k) (here r))) → ((k : List Frame) → over (f k) ≡ over (g k)) → Onward f g r s
+optional p true q a h o = took p _ (q.passed refl) a h
+optional p false q a h o = kept p _ (q.left refl) a h o
+
+-- no byte with p stands at the place where none was passed
+pub misses : (p : ℕ → Bool) {test : Answer} {r s : Reader} → ByteLeft test r s → Answers test p → Inside s → p (here s) ≡ false
+misses p q a = rw q.stays (λ i. a _ _ (q.fails i))
+
+-- no white space stands where none did
+pub solid : {r s : Reader} → s ≡ r → (Inside r → white (here r) ≡ false) → Inside s → white (here s) ≡ false
+solid e w = rw e w
+
+-- neither white space nor a byte with p stands at the place where none with p was passed
+pub neither : {A : Type 0} (p : ℕ → Bool) {test : Answer} {r s : Reader} (u v w : A) → (Inside r → white (here r) ≡ false) → ByteLeft test r s → Answers test p → Inside s → cond (white (here s)) u (cond (p (here s)) v w) ≡ w
+neither p {s = s} u v w h q a i = cond-false (white (here s)) _ _ (solid q.stays h i) ∙ cond-false (p (here s)) _ _ (misses p q a i)
+
+-- where any byte but one with p and the end are forbidden
+pub refused : {f : Stack} (p : ℕ → Bool) {test : Answer} {r s : Reader} {e : TextFault} → ByteLeft test r s → e ≡ Forbidden r.at → Answers test p → (Inside r → p (here r) ≡ false → (k : List Frame) → step (f k) (here r) ≡ forbidden) → (length r.text.now ≤ r.at → (k : List Frame) → over (f k) ≡ false) → Halted f r s e
+refused p {r = r} q e a h o = rw q.stays (⊎_elim (λ i. bad_here i e (h i (a _ _ (q.fails i)))) (λ i. bad_end i e (o i)) (cases_lt r.at (length r.text.now)))
+
+-- only a byte with p may stand here
+pub expected : (f g : Stack) (p : ℕ → Bool) {test : Answer} {r s : Reader} (x : Result (Unit {0}) TextFault) → Expects test r s x → Answers test p → (Inside r → (k : List Frame) → step (f k) (here r) ≡ cond (p (here r)) (go (g k)) forbidden) → ((k : List Frame) → over (f k) ≡ false) → Reads f g r s x
+expected f g p (Ok y) q a h o = took p (λ k. forbidden) q.passed a (h q.passed.inside)
+expected f g p {r = r} (Err e) q a h o = refused p q.left.0 q.left.1 a (λ i n k. h i k ∙ cond-false (p (here r)) _ _ n) (λ _. o)
+
 -- events do not change how a text ends
 abbrev pub SameEnding : (Tape → Tape) → Type 0
 SameEnding p = (t : Tape) → ending (p t) ≡ ending t
@@ -110,6 +158,10 @@ module _ {f g h : Stack} where
 
   pub then_passed : {a b : Tape → Tape} {r s u : Reader} → Passed f g a r s → Passed g h b s u → Passed f h (λ t. a (b t)) r u
   then_passed {a} {b} {r} {s} {u} p q = record { same = q.same ∙ p.same; forth = omega arith; runs = λ k. p.runs k ∙ ap a (q.runs k) }
+
+-- on to where a byte was left
+pub then_left : {f g : Stack} {test : Answer} {r s u : Reader} → Onward f g r s → ByteLeft test s u → Onward f g r u
+then_left p q = rw q.stays p
 
 pub then_halted : {f g : Stack} {r s u : Reader} {e : TextFault} → Onward f g r s → Halted g s u e → Halted f r u e
 then_halted p q = record { same = q.same ∙ p.same; found = λ k. ap ending (p.runs k) ∙ q.found k }
@@ -149,15 +201,15 @@ tails_some (suc n) k h = rw sub-one refl
 pub tails_none : (n : ℕ) (k : List Frame) → n ≡ 0 → tails n k ≡ tails 0 k
 tails_none n k e = ap (λ m. tails m k) e
 
+pub hexes_some : (n : ℕ) (k : List Frame) → 0 < n → hexes n k ≡ hex (n - 1) ∷ k
+hexes_some zero k h = absurd (omega arith)
+hexes_some (suc n) k h = rw sub-one refl
+
 pub letters_some : (cs : List ℕ) (i : ℕ) (k : List Frame) → i < length cs → letters (drop i cs) k ≡ literal (get_or cs i 0 ∷ drop (i + 1) cs) ∷ k
-letters_some cs i k h = rw (add-one, drop-cons cs i 0 h) refl
+letters_some cs i k h = rw (drop_more cs i 0 h) refl
 
 pub letters_none : (cs : List ℕ) (i : ℕ) (k : List Frame) → length cs ≤ i → letters (drop i cs) k ≡ k
 letters_none cs i k h = rw (drop_all i cs h) refl
-
-pub chars_wide : (b : ℕ) (k : List Frame) → 127 < b → step (chars ∷ k) b ≡ lead b k
-unfolding step
-chars_wide b k h = grind (arith, nat_tests)
 
 pub past : (f g : Stack) (r s : Reader) (x : Result (Unit {0}) TextFault) (i : ℕ) → i < r.at → Reads f g r s x → IfOk x (λ _. i < s.at)
 past f g r s (Ok y) i h p = omega arith

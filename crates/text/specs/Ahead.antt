@@ -1,8 +1,9 @@
 -- What each call of a reader does, for every continuation: how the tape of what is left goes on.
-use Rattle.std.specs.Prelude.{◌≡◌, ℕ, ◌+◌, ◌-◌, ◌<◌, ◌≤◌, Bool, true, false, List, [], ◌∷◌, length, drop, Some, None, Ok, Err, Option, Result, slice_index}
+use Rattle.std.specs.Prelude.{◌≡◌, ℕ, ◌+◌, ◌-◌, ◌<◌, ◌≤◌, Bool, true, false, cond, List, [], ◌∷◌, ◌==◌, length, drop, Some, None, Ok, Err, Option, Result, IfOk, IfErr, slice_index}
 use Rattle.std.specs.Borrow.{Bor}
 use Rattle.text.specs.declared.reader.Reader.{Reader}
 use Rattle.text.specs.declared.fault.TextFault.{TextFault}
+use Rattle.text.specs.declared.fault.TextFault.TheVariants.{Forbidden}
 use Rattle.text.specs.declared.scalar.Lead.{Lead}
 use Rattle.text.specs.declared.token.Placed.{Placed}
 use Rattle.text.specs.declared.token.Token.{Token}
@@ -10,7 +11,7 @@ use Rattle.text.specs.declared.token.Token.TheVariants.{Object, Array, String, N
 use Rattle.text.specs.declared.token.Member.{Member}
 use Rattle.text.specs.declared.token.Member.TheVariants.{Named, End}
 use Rattle.text.specs.Bytes.{white}
-use Rattle.text.specs.Machine.{Frame, value, letters, members, entries, tail, chars, Kind, begin_object, begin_array, end_object, end_array, name, string, number, literal_true, literal_false, literal_null, Step, go, says, forbidden, step, Tape, good, event, ending, run}
+use Rattle.text.specs.Machine.{Frame, value, letters, members, entries, tail, chars, lead, over, Kind, begin_object, begin_array, end_object, end_array, name, string, number, literal_true, literal_false, literal_null, Step, go, says, forbidden, step, Tape, good, event, ending, run}
 use Rattle.text.specs.Tree.{Json, Members, Entries, events, member_events, entry_events, Proper, ProperMembers, ProperEntries}
 use Rattle.text.specs.Parts.{scalar_length, value_length, string_part, number_part}
 
@@ -64,10 +65,46 @@ ReadsLetters cs r s (Err e) = Halted (λ k. letters cs k) r s e
 abbrev pub Skips : Stack → Type 0
 Skips f = (k : List Frame) (b : ℕ) → white b ≡ true → step (f k) b ≡ go (f k)
 
+-- what a test may answer to a byte
+abbrev pub Answer : Type 1
+Answer = ℕ → Bool → Type 0
+
+-- the byte at r met the test and was passed
+pub record ByteRead (test : Answer) (r s : Reader) : Type 0 where
+  pub inside : Inside r
+  pub meets : test (here r) true
+  pub same : s.text ≡ r.text
+  pub next : s.at ≡ r.at + 1
+
+-- no byte that meets the test stands at r, and none was passed
+pub record ByteLeft (test : Answer) (r s : Reader) : Type 0 where
+  pub stays : s ≡ r
+  pub fails : Inside r → test (here r) false
+
+-- the byte at r was passed if it meets the test
+pub record Accepts (test : Answer) (r s : Reader) (x : Bool) : Type 0 where
+  pub passed : x ≡ true → ByteRead test r s
+  pub left : x ≡ false → ByteLeft test r s
+
+-- the byte at r was passed, or it or the end is at fault
+pub record Expects (test : Answer) (r s : Reader) (x : Result (Unit {0}) TextFault) : Type 0 where
+  pub passed : IfOk x (λ _. ByteRead test r s)
+  pub left : IfErr x (λ e. ByteLeft test r s × (e ≡ Forbidden r.at))
+
+-- all bytes from r to s met the test, and none at s does
+pub record Passes (test : Answer) (r s : Reader) : Type 0 where
+  pub runs : (f : Stack) → ((k : List Frame) (b : ℕ) → test b true → step (f k) b ≡ go (f k)) → Onward f f r s
+  pub stops : Inside s → test (here s) false
+
 -- what a first byte of a character beyond ASCII leads to
 abbrev pub led : Option Lead → List Frame → Step
 led (Some l) k = go (tail l.low l.high l.more ∷ k)
 led None k = forbidden
+
+-- at r only a character beyond ASCII may stand
+pub record Leads (f : Stack) (r : Reader) : Type 0 where
+  pub byte : Inside r → (k : List Frame) → step (f k) (here r) ≡ lead (here r) k
+  pub end : (k : List Frame) → over (f k) ≡ false
 
 -- a string at r, wherever one may stand, was read; x lies between its quotes
 pub record StringRead (r s : Reader) (x : List ℕ) : Type 0 where
@@ -76,10 +113,15 @@ pub record StringRead (r s : Reader) (x : List ℕ) : Type 0 where
   pub moves : r.at < s.at
   pub passed : (n : Kind) (f g : Stack) → ((k : List Frame) → step (f k) 34 ≡ says n (chars ∷ g k)) → Passed f g (event n r.at) r s
 
+-- at r only a string with the event n may stand
+pub record Quotes (n : Kind) (f g : Stack) (r : Reader) : Type 0 where
+  pub byte : Inside r → (k : List Frame) → step (f k) (here r) ≡ cond (here r == 34) (says n (chars ∷ g k)) forbidden
+  pub end : length r.text.now ≤ r.at → (k : List Frame) → over (f k) ≡ false
+
 -- a string, or the fault of the text
 abbrev pub ReadsString : Reader → Reader → Result (Bor (List ℕ)) TextFault → Type 0
 ReadsString r s (Ok x) = StringRead r s x.now
-ReadsString r s (Err e) = (n : Kind) (f g : Stack) → ((k : List Frame) → step (f k) 34 ≡ says n (chars ∷ g k)) → Halted f r s e
+ReadsString r s (Err e) = (n : Kind) (f g : Stack) → Quotes n f g r → Halted f r s e
 
 -- the number x at r was read
 pub record NumberRead (r s : Reader) (x : List ℕ) : Type 0 where
@@ -230,6 +272,11 @@ pub record NameRead (f : ℕ → Stack) (r s : Reader) (x : List ℕ) (i : ℕ) 
 abbrev pub ReadsName : (ℕ → Stack) → Reader → Reader → Result (Placed (Bor (List ℕ))) TextFault → Type 0
 ReadsName f r s (Ok p) = NameRead f r s p.value.now p.offset
 ReadsName f r s (Err e) = (d : ℕ) → Halted (f d) r s e
+
+-- at r a comma leads from f to g, and none may stand before the first
+abbrev pub Separated : Bool → Stack → Stack → Reader → Type 0
+Separated true f g r = (Inside r → (k : List Frame) → step (f k) (here r) ≡ step (g k) (here r)) × ((k : List Frame) → over (f k) ≡ over (g k))
+Separated false f g r = (Inside r → (k : List Frame) → step (f k) (here r) ≡ cond (here r == 44) (go (g k)) forbidden) × ((k : List Frame) → over (f k) ≡ false)
 
 -- a member's name, or the object's end, or the fault of the text
 abbrev pub ReadsMember : Bool → Reader → Reader → Result Member TextFault → Type 0

@@ -78,6 +78,10 @@ abbrev pub alike : Bool → ℕ → ℕ → Bool
 alike true u v = lowered u == lowered v
 alike false u v = u == v
 
+-- a test of a unit and a letter answers as p does
+abbrev pub Compares : (ℕ → ℕ → Bool → Type 0) → (ℕ → ℕ → Bool) → Type 0
+Compares test p = (u v : ℕ) (x : Bool) → test u v x → p u v ≡ x
+
 -- whether units are alike one by one
 unfoldable pub matching : Bool → List ℕ → List ℕ → Bool
 matching f [] [] = true

@@ -1,6 +1,7 @@
 // JSON after RFC 8259, in UTF-8 after RFC 3629: a reader that moves along the text and copies none of it.
 #![tactic(auto)]
 
+pub mod bytes;
 pub mod fault;
 pub mod laws;
 pub mod number;

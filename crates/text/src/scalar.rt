@@ -1,9 +1,8 @@
 // Strings, numbers, literals and white space.
-ghost use Rattle.std.specs.Prelude.{◌≡◌, ℕ, ◌<◌, true, false, ◌⊎◌, List, ◌∷◌, OnOk, ◌≢◌};
-ghost use Rattle.text.specs.declared.fault.TextFault.TheVariants.{Forbidden};
+ghost use Rattle.std.specs.Prelude.{◌≡◌, ℕ, ◌<◌, false, List, ◌∷◌, OnOk, ◌≢◌};
 ghost use Rattle.text.specs.Bytes.{white, digit};
-ghost use Rattle.text.specs.Machine.{Frame, Part, whole, fraction, exponent, value as a_value, first, digits, digit1, sign, after, chars, escape, hex, hexes, tail, tails, lead, event, number as a_number};
-ghost use Rattle.text.specs.Ahead.{Stack, Reads, ReadsTo, ReadsLetters, Onward, Passed, Inside, here, Skips, led};
+ghost use Rattle.text.specs.Machine.{Frame, Part, whole, fraction, exponent, first, digits, digit1, sign, after, chars, escape, hex, hexes, tail, tails, lead};
+ghost use Rattle.text.specs.Ahead.{Stack, Reads, ReadsTo, ReadsLetters, Onward, Inside, here, Skips, led, Leads};
 
 use crate::fault::TextFault;
 use crate::reader::Reader;
@@ -19,67 +18,31 @@ pub struct Lead {
 fn lead_of(b: u8) -> Option<Lead>
     ensures { (k : List Frame) → lead b k ≡ led result k }
 {
-    match b {
-        0xc2..=0xdf => Some(Lead {
-            low: 0x80,
-            high: 0xbf,
-            more: 0,
-        }),
-        0xe0 => Some(Lead {
-            low: 0xa0,
-            high: 0xbf,
-            more: 1,
-        }),
-        0xed => Some(Lead {
-            low: 0x80,
-            high: 0x9f,
-            more: 1,
-        }),
-        0xe1..=0xef => Some(Lead {
-            low: 0x80,
-            high: 0xbf,
-            more: 1,
-        }),
-        0xf0 => Some(Lead {
-            low: 0x90,
-            high: 0xbf,
-            more: 2,
-        }),
-        0xf1..=0xf3 => Some(Lead {
-            low: 0x80,
-            high: 0xbf,
-            more: 2,
-        }),
-        0xf4 => Some(Lead {
-            low: 0x80,
-            high: 0x8f,
-            more: 2,
-        }),
-        _ => None,
-    }
+    let (low, high, more) = match b {
+        0xc2..=0xdf => (0x80, 0xbf, 0),
+        0xe0 => (0xa0, 0xbf, 1),
+        0xed => (0x80, 0x9f, 1),
+        0xe1..=0xef => (0x80, 0xbf, 1),
+        0xf0 => (0x90, 0xbf, 2),
+        0xf1..=0xf3 => (0x80, 0xbf, 2),
+        0xf4 => (0x80, 0x8f, 2),
+        _ => return None,
+    };
+    Some(Lead { low, high, more })
 }
 
 fn is_white(b: u8) -> bool
     ensures { result ≡ white b }
 {
-    b == b' ' || b == b'\t' || b == b'\n' || b == b'\r'
+    matches!(b, b' ' | b'\t' | b'\n' | b'\r')
 }
 
 impl<'a> Reader<'a> {
-    // The byte or the end that stands here is forbidden.
-    pub(crate) fn forbidden(&self) -> TextFault
-        ensures { result ≡ Forbidden self.now.at }
-    {
-        TextFault::Forbidden(self.at)
-    }
-
     pub(crate) fn blanks(&mut self)
         ensures runs { (f : Stack) → Skips f → Onward f f self.old self.new }
         ensures stops { Inside self.new → white (here self.new) ≡ false }
     {
-        while self.at < self.text.len() && is_white(self.text[self.at]) {
-            self.at += 1;
-        }
+        self.skip(is_white);
     }
 
     // Passes the digits that stand here.
@@ -87,18 +50,13 @@ impl<'a> Reader<'a> {
         ensures runs { (p : Part) → Onward (λ k. digits p ∷ k) (λ k. digits p ∷ k) self.old self.new }
         ensures stops { Inside self.new → digit (here self.new) ≡ false }
     {
-        while self.at < self.text.len() && self.text[self.at].is_ascii_digit() {
-            self.at += 1;
-        }
+        self.skip(|b| b.is_ascii_digit());
     }
 
     fn some_digits(&mut self) -> Result<(), TextFault>
         ensures { (p : Part) → Reads (λ k. digit1 p ∷ k) (λ k. after p ∷ k) self.old self.new result }
     {
-        if self.at >= self.text.len() || !self.text[self.at].is_ascii_digit() {
-            return Err(self.forbidden());
-        }
-        self.at += 1;
+        self.expect(|b| b.is_ascii_digit())?;
         self.digits();
         Ok(())
     }
@@ -106,28 +64,16 @@ impl<'a> Reader<'a> {
     fn whole_part(&mut self) -> Result<(), TextFault>
         ensures { Reads (λ k. first ∷ k) (λ k. after whole ∷ k) self.old self.new result }
     {
-        if self.at >= self.text.len() {
-            return Err(self.forbidden());
+        if self.accept(|b| b == b'0') {
+            return Ok(());
         }
-        match self.text[self.at] {
-            b'0' => {
-                self.at += 1;
-                Ok(())
-            }
-            b'1'..=b'9' => {
-                self.at += 1;
-                self.digits();
-                Ok(())
-            }
-            _ => Err(self.forbidden()),
-        }
+        self.some_digits()
     }
 
     fn fraction(&mut self) -> Result<(), TextFault>
         ensures { Reads (λ k. after whole ∷ k) (λ k. after fraction ∷ k) self.old self.new result }
     {
-        if self.at < self.text.len() && self.text[self.at] == b'.' {
-            self.at += 1;
+        if self.accept(|b| b == b'.') {
             return self.some_digits();
         }
         Ok(())
@@ -136,31 +82,17 @@ impl<'a> Reader<'a> {
     fn sign(&mut self)
         ensures { Onward (λ k. sign ∷ k) (λ k. digit1 exponent ∷ k) self.old self.new }
     {
-        if self.at < self.text.len() && matches!(self.text[self.at], b'+' | b'-') {
-            self.at += 1;
-        }
+        self.accept(|b| matches!(b, b'+' | b'-'));
     }
 
     fn exponent(&mut self) -> Result<(), TextFault>
         ensures { Reads (λ k. after fraction ∷ k) (λ k. k) self.old self.new result }
     {
-        if self.at < self.text.len() && matches!(self.text[self.at], b'e' | b'E') {
-            self.at += 1;
+        if self.accept(|b| matches!(b, b'e' | b'E')) {
             self.sign();
             return self.some_digits();
         }
         Ok(())
-    }
-
-    // Passes the minus of the number that begins here, if it has one.
-    pub(crate) fn minus(&mut self)
-        requires inside { Inside self.old }
-        requires is { (here self.old ≡ 45) ⊎ (digit (here self.old) ≡ true) }
-        ensures { (d : ℕ) → Passed (λ k. a_value d ∷ k) (λ k. first ∷ k) (event a_number self.old.at) self.old self.new }
-    {
-        if self.text[self.at] == b'-' {
-            self.at += 1;
-        }
     }
 
     // The rest of a number, after its minus.
@@ -175,104 +107,72 @@ impl<'a> Reader<'a> {
     fn hex_digit(&mut self) -> Result<(), TextFault>
         ensures { (n : ℕ) → Reads (λ k. hex n ∷ k) (λ k. hexes n k) self.old self.new result }
     {
-        if self.at >= self.text.len() {
-            return Err(self.forbidden());
+        self.expect(|b| b.is_ascii_hexdigit())
+    }
+
+    fn hex_digits(&mut self) -> Result<(), TextFault>
+        ensures { Reads (λ k. hex 3 ∷ k) (λ k. chars ∷ k) self.old self.new result }
+    {
+        for _ in 0..4u8 {
+            self.hex_digit()?;
         }
-        match self.text[self.at] {
-            b'0'..=b'9' | b'a'..=b'f' | b'A'..=b'F' => {
-                self.at += 1;
-                Ok(())
-            }
-            _ => Err(self.forbidden()),
-        }
+        Ok(())
     }
 
     // What follows a backslash.
     fn escape(&mut self) -> Result<(), TextFault>
         ensures { Reads (λ k. escape ∷ k) (λ k. chars ∷ k) self.old self.new result }
     {
-        if self.at >= self.text.len() {
-            return Err(self.forbidden());
+        if self.accept(|b| b == b'u') {
+            return self.hex_digits();
         }
-        match self.text[self.at] {
-            b'"' | b'\\' | b'/' | b'b' | b'f' | b'n' | b'r' | b't' => {
-                self.at += 1;
-                Ok(())
-            }
-            b'u' => {
-                self.at += 1;
-                self.hex_digit()?;
-                self.hex_digit()?;
-                self.hex_digit()?;
-                self.hex_digit()
-            }
-            _ => Err(self.forbidden()),
-        }
+        self.expect(|b| matches!(b, b'"' | b'\\' | b'/' | b'b' | b'f' | b'n' | b'r' | b't'))
     }
 
     // A byte of a character after its first.
     fn continuation(&mut self, low: u8, high: u8) -> Result<(), TextFault>
         ensures { (n : ℕ) → Reads (λ k. tail low high n ∷ k) (λ k. tails n k) self.old self.new result }
     {
-        if self.at >= self.text.len() {
-            return Err(self.forbidden());
-        }
-        let b = self.text[self.at];
-        if low <= b && b <= high {
-            self.at += 1;
-            return Ok(());
-        }
-        Err(self.forbidden())
+        self.expect(|b| (low..=high).contains(&b))
     }
 
     fn continuations(&mut self, more: u8) -> Result<(), TextFault>
         ensures { Reads (λ k. tails more k) (λ k. chars ∷ k) self.old self.new result }
     {
-        let mut left = more;
-        while left > 0 {
+        for _ in 0..more {
             self.continuation(0x80, 0xbf)?;
-            left -= 1;
         }
         Ok(())
     }
 
-    // A character beyond ASCII, whose first byte b stands here.
-    fn wide(&mut self, b: u8) -> Result<(), TextFault>
-        requires inside { Inside self.old }
-        requires is { b ≡ here self.old }
-        requires high { 127 < b }
-        ensures reads { Reads (λ k. chars ∷ k) (λ k. chars ∷ k) self.old self.new result }
+    // A character beyond ASCII.
+    fn wide(&mut self) -> Result<(), TextFault>
+        ensures reads { (f : Stack) → Leads f self.old → Reads f (λ k. chars ∷ k) self.old self.new result }
         ensures further { OnOk result (self.old.at < self.new.at) }
     {
-        match lead_of(b) {
-            None => Err(self.forbidden()),
-            Some(lead) => {
-                self.at += 1;
-                self.continuation(lead.low, lead.high)?;
-                self.continuations(lead.more)
-            }
-        }
+        let lead = self.peek().and_then(lead_of).ok_or(self.forbidden())?;
+        self.at += 1;
+        self.continuation(lead.low, lead.high)?;
+        self.continuations(lead.more)
     }
 
-    // One character or escape of a string, whose first byte b stands here.
-    fn character(&mut self, b: u8) -> Result<(), TextFault>
-        requires inside { Inside self.old }
-        requires is { b ≡ here self.old }
-        requires goes { b ≢ 34 }
+    // One character or escape of a string.
+    // The condition stays: a quote ends the string, which `characters` sees; a contract of it here too would be no plainer.
+    fn character(&mut self) -> Result<(), TextFault>
+        requires { Inside self.old → here self.old ≢ 34 }
         ensures reads { Reads (λ k. chars ∷ k) (λ k. chars ∷ k) self.old self.new result }
         ensures further { OnOk result (self.old.at < self.new.at) }
     {
-        match b {
-            b'\\' => {
+        match self.peek() {
+            Some(b'\\') => {
                 self.at += 1;
                 self.escape()
             }
-            0..=0x1f => Err(self.forbidden()),
-            0x20..=0x7f => {
+            Some(0x20..=0x7f) => {
                 self.at += 1;
                 Ok(())
             }
-            _ => self.wide(b),
+            _ => self.wide(),
         }
     }
 
@@ -280,27 +180,18 @@ impl<'a> Reader<'a> {
     pub(crate) fn characters(&mut self) -> Result<usize, TextFault>
         ensures { ReadsTo (λ k. chars ∷ k) (λ k. k) self.old self.new result }
     {
-        while self.at < self.text.len() {
-            let b = self.text[self.at];
-            if b == b'"' {
-                let quote = self.at;
-                self.at += 1;
-                return Ok(quote);
-            }
-            self.character(b)?;
+        while !self.accept(|b| b == b'"') {
+            self.character()?;
         }
-        Err(self.forbidden())
+        Ok(self.at - 1)
     }
 
-    // The letters of a literal that are left.
+    // The letters of a literal.
     pub(crate) fn letters(&mut self, rest: &[u8]) -> Result<(), TextFault>
         ensures { ReadsLetters rest.now self.old self.new result }
     {
         for c in rest {
-            if self.at >= self.text.len() || self.text[self.at] != *c {
-                return Err(self.forbidden());
-            }
-            self.at += 1;
+            self.expect(|b| b == *c)?;
         }
         Ok(())
     }

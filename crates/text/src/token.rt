@@ -21,6 +21,7 @@ pub enum Token<'a> {
 
 // What comes next in an object: a member's name, whose offset is that of its opening quote,
 // or the object's end, with the offset of the closing brace.
+// An enum of its own: the end is no failure, so a Result would say less, and an Option would lose its offset.
 #[derive(Clone, Copy)]
 pub enum Member<'a> {
     Named(Placed<&'a [u8]>),

@@ -1,9 +1,9 @@
 // Values, objects and arrays.
-ghost use Rattle.std.specs.Prelude.{◌≡◌, ℕ, ◌<◌, ◌≤◌, true, false, ◌⊎◌, ◌∷◌, length, Ok, MatchResult, ◌≢◌};
+ghost use Rattle.std.specs.Prelude.{◌≡◌, ◌<◌, ◌≤◌, true, false, ◌⊎◌, ◌∷◌, length, Ok, MatchResult};
 ghost use Rattle.text.specs.declared.fault.TextFault.TheVariants.{TooLong};
 ghost use Rattle.text.specs.Bytes.{white, digit};
 ghost use Rattle.text.specs.Machine.{member as a_member, members, entries, begin_object, begin_array, outcome};
-ghost use Rattle.text.specs.Ahead.{Reads, Opens, Inside, here, ReadsString, ReadsNumber, ReadsToken, ReadsTokenHere, ReadsValue, ReadsMembers, ReadsEntries, ReadsName, ReadsMember, ReadsEntry, Finishes};
+ghost use Rattle.text.specs.Ahead.{Stack, Reads, Separated, Opens, Inside, here, ReadsString, ReadsNumber, ReadsToken, ReadsTokenHere, ReadsValue, ReadsMembers, ReadsEntries, ReadsName, ReadsMember, ReadsEntry, Finishes};
 ghost use Rattle.text.specs.Grammar.{Text};
 ghost use Rattle.text.specs.Judged.{Judged};
 ghost use Rattle.text.specs.Limits.{most_bytes, most_levels};
@@ -21,11 +21,12 @@ impl<'a> Reader<'a> {
         Reader { text, at: 0 }
     }
 
-    // Passes the brace of an object, if `levels` leaves a level to open.
-    fn open_object(&mut self, levels: u8) -> Result<(), TextFault>
-        requires inside { Inside self.old }
-        requires is { here self.old ≡ 123 }
-        ensures { Opens levels begin_object (λ d k. members true d ∷ k) self.old self.new result }
+    // Passes the bracket that stands here, if `levels` leaves a level to open.
+    // The condition stays: the bracket was looked at already, and a contract of any other byte too would be no plainer.
+    fn open(&mut self, levels: u8) -> Result<(), TextFault>
+        requires { Inside self.old }
+        ensures object { here self.old ≡ 123 → Opens levels begin_object (λ d k. members true d ∷ k) self.old self.new result }
+        ensures array { here self.old ≡ 91 → Opens levels begin_array (λ d k. entries true d ∷ k) self.old self.new result }
     {
         if levels == 0 {
             return Err(TextFault::TooDeep(self.at));
@@ -34,69 +35,55 @@ impl<'a> Reader<'a> {
         Ok(())
     }
 
-    // Passes the bracket of an array, if `levels` leaves a level to open.
-    fn open_array(&mut self, levels: u8) -> Result<(), TextFault>
-        requires inside { Inside self.old }
-        requires is { here self.old ≡ 91 }
-        ensures { Opens levels begin_array (λ d k. entries true d ∷ k) self.old self.new result }
-    {
-        if levels == 0 {
-            return Err(TextFault::TooDeep(self.at));
-        }
-        self.at += 1;
-        Ok(())
-    }
-
-    // A string whose quote stands here; what lies between its quotes.
+    // A string; what lies between its quotes.
     fn string(&mut self) -> Result<&'a [u8], TextFault>
-        requires inside { Inside self.old }
-        requires is { here self.old ≡ 34 }
         ensures { ReadsString self.old self.new result }
     {
-        self.at += 1;
+        self.expect(|b| b == b'"')?;
         let from = self.at;
         let quote = self.characters()?;
         Ok(&self.text[from..quote])
     }
 
     // A number whose minus or first digit stands here; all of it.
+    // Without the conditions the contract would say what every other value does here, which is no plainer.
     fn number(&mut self) -> Result<&'a [u8], TextFault>
         requires inside { Inside self.old }
         requires is { (here self.old ≡ 45) ⊎ (digit (here self.old) ≡ true) }
         ensures { ReadsNumber self.old self.new result }
     {
         let from = self.at;
-        self.minus();
+        self.accept(|b| b == b'-');
         self.magnitude()?;
         Ok(&self.text[from..self.at])
     }
 
     // How the value begins that stands here: a scalar is read whole, of an object or an array the bracket alone.
+    // The condition stays: `token` passes the white space, since the offset that it tells is the value's.
     fn token_here(&mut self, levels: u8) -> Result<Token<'a>, TextFault>
-        requires inside { Inside self.old }
-        requires is { white (here self.old) ≡ false }
+        requires { Inside self.old → white (here self.old) ≡ false }
         ensures { ReadsTokenHere levels self.old self.new result }
     {
-        match char::from(self.text[self.at]) {
-            '{' => {
-                self.open_object(levels)?;
+        match self.peek().map(char::from) {
+            Some('{') => {
+                self.open(levels)?;
                 Ok(Token::Object)
             }
-            '[' => {
-                self.open_array(levels)?;
+            Some('[') => {
+                self.open(levels)?;
                 Ok(Token::Array)
             }
-            '"' => Ok(Token::String(self.string()?)),
-            '-' | '0'..='9' => Ok(Token::Number(self.number()?)),
-            't' => {
+            Some('"') => Ok(Token::String(self.string()?)),
+            Some('-' | '0'..='9') => Ok(Token::Number(self.number()?)),
+            Some('t') => {
                 self.letters(b"true")?;
                 Ok(Token::True)
             }
-            'f' => {
+            Some('f') => {
                 self.letters(b"false")?;
                 Ok(Token::False)
             }
-            'n' => {
+            Some('n') => {
                 self.letters(b"null")?;
                 Ok(Token::Null)
             }
@@ -109,9 +96,6 @@ impl<'a> Reader<'a> {
         ensures { ReadsToken levels self.old self.new result }
     {
         self.blanks();
-        if self.at >= self.text.len() {
-            return Err(self.forbidden());
-        }
         let offset = self.at;
         let value = self.token_here(levels)?;
         Ok(Placed { value, offset })
@@ -132,6 +116,7 @@ impl<'a> Reader<'a> {
     }
 
     // The rest of an object, after its brace.
+    // Apart from `array`: one loop for both would take a closure that borrows the reader, which is no plainer.
     #[cycle(array_object_value)]
     fn object(&mut self, levels: u8) -> Result<(), TextFault>
         ensures { ReadsMembers levels self.old self.new result }
@@ -158,37 +143,27 @@ impl<'a> Reader<'a> {
     }
 
     // In an object: the name of its next member, past the colon, or the object's end, past the brace.
+    // The caller tells whether it is the first, since a reader has a text and a position and nothing else.
     pub fn member(&mut self, first: bool) -> Result<Member<'a>, TextFault>
         ensures { ReadsMember first self.old self.new result }
     {
         self.blanks();
-        if self.at >= self.text.len() {
-            return Err(self.forbidden());
-        }
         let here = self.at;
-        if self.text[here] == b'}' {
-            self.at += 1;
+        if self.accept(|b| b == b'}') {
             return Ok(Member::End(here));
         }
-        if first {
-            return Ok(Member::Named(self.name()?));
-        }
-        self.comma()?;
+        self.comma(first)?;
         Ok(Member::Named(self.name()?))
     }
 
-    // The comma between two members, where neither white space nor the object's end stands.
-    fn comma(&mut self) -> Result<(), TextFault>
-        requires inside { Inside self.old }
-        requires is { white (here self.old) ≡ false }
-        requires goes { here self.old ≢ 125 }
-        ensures { (d : ℕ) → Reads (λ k. members false d ∷ k) (λ k. a_member d ∷ k) self.old self.new result }
+    // The comma before a member or an entry that is not the first.
+    fn comma(&mut self, first: bool) -> Result<(), TextFault>
+        ensures { (f : Stack) (g : Stack) → Separated first f g self.old → Reads f g self.old self.new result }
     {
-        if self.text[self.at] == b',' {
-            self.at += 1;
+        if first {
             return Ok(());
         }
-        Err(self.forbidden())
+        self.expect(|b| b == b',')
     }
 
     // A member's name and the colon after it.
@@ -196,39 +171,23 @@ impl<'a> Reader<'a> {
         ensures { ReadsName (λ d k. a_member d ∷ k) self.old self.new result }
     {
         self.blanks();
-        if self.at >= self.text.len() || self.text[self.at] != b'"' {
-            return Err(self.forbidden());
-        }
         let offset = self.at;
         let value = self.string()?;
         self.blanks();
-        if self.at >= self.text.len() || self.text[self.at] != b':' {
-            return Err(self.forbidden());
-        }
-        self.at += 1;
+        self.expect(|b| b == b':')?;
         Ok(Placed { value, offset })
     }
 
-    // In an array: whether an entry follows; the array's bracket is passed where none does.
+    // In an array: whether an entry follows; the array's bracket is passed where none does. The caller tells of the first here too.
     pub fn entry(&mut self, first: bool) -> Result<bool, TextFault>
         ensures { ReadsEntry first self.old self.new result }
     {
         self.blanks();
-        if self.at >= self.text.len() {
-            return Err(self.forbidden());
-        }
-        if self.text[self.at] == b']' {
-            self.at += 1;
+        if self.accept(|b| b == b']') {
             return Ok(false);
         }
-        if first {
-            return Ok(true);
-        }
-        if self.text[self.at] == b',' {
-            self.at += 1;
-            return Ok(true);
-        }
-        Err(self.forbidden())
+        self.comma(first)?;
+        Ok(true)
     }
 
     // Sees that nothing but white space is left.
@@ -236,10 +195,10 @@ impl<'a> Reader<'a> {
         ensures { Finishes self.old self.new result }
     {
         self.blanks();
-        if self.at < self.text.len() {
-            return Err(self.forbidden());
+        match self.peek() {
+            Some(_) => Err(self.forbidden()),
+            None => Ok(()),
         }
-        Ok(())
     }
 }
 
@@ -261,6 +220,6 @@ pub fn check(text: &[u8]) -> Result<(), TextFault>
 {
     check_length(text)?;
     let mut reader = Reader::new(text);
-    let _ = reader.value(MAX_LEVELS)?;
+    reader.value(MAX_LEVELS)?;
     reader.finish()
 }

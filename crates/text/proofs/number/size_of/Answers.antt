@@ -1,7 +1,8 @@
-use Rattle.std.proofs.Common.{◌≡◌, ℕ, zero, suc, ◌+◌, ◌-◌, ◌*◌, ◌<◌, ◌≤◌, Bool, true, false, List, [], ◌∷◌, length, get_or, drop, Some, None, sym, refl, ap, ◌∙◌, ⊎_elim, add-one, arith, drop-cons}
+use Rattle.std.proofs.Common.{◌≡◌, ℕ, zero, suc, ◌+◌, ◌-◌, ◌*◌, ◌<◌, ◌≤◌, Bool, true, false, cond, List, [], ◌∷◌, length, get_or, drop, Some, None, sym, refl, ap, ◌∙◌, ⊎_elim, arith, drop-cons}
 use Rattle.std.proofs.lemmas.Bool.Decides.{nat_tests}
-use Rattle.std.proofs.lemmas.List.{drop_all}
+use Rattle.std.proofs.lemmas.List.{drop_all, drop_more}
 use Rattle.std.proofs.lemmas.Bool.{cases_lt}
+use Rattle.std.specs.Bool.{then_some}
 use Rattle.text.specs.Bytes.{digit}
 use Rattle.text.specs.Numbers.{decimal, magnitude, up_to}
 use Rattle.text.proofs.Decimal.{decimal_digit, decimal_other, magnitude_start}
@@ -23,7 +24,7 @@ turn xs n zero h a b z = rw (a refl) (magnitude_start xs (omega arith) (z refl))
 turn xs n (suc i) h a b z = b (omega arith)
 
 more : (xs : List ℕ) (n i : ℕ) → i < length xs → digit (get_or xs i 0) ≡ true → magnitude xs ≡ decimal n (drop i xs) → magnitude xs ≡ decimal (n * 10 + (get_or xs i 0 - 48)) (drop (i + 1) xs)
-more xs n i h d e = e ∙ (rw (add-one, drop-cons xs i 0 h) (decimal_digit n _ _ d))
+more xs n i h d e = e ∙ rw (drop_more xs i 0 h) (decimal_digit n _ _ d)
 
 by_digit : (m n b : ℕ) (bs : List ℕ) (x : Bool) → digit b ≡ x → (digit b ≡ true → m < n * 10 + (b - 48)) → up_to m (decimal n (b ∷ bs)) ≡ None
 by_digit m n b bs true e d = rw (decimal_digit n b bs e) (large m _ bs (d e))
@@ -50,10 +51,11 @@ pub returns-in_default-3 : goal.returns-in_default-3
 returns-in_default-3 c = over_most c.args.most _ _ _ c.loop-i-test.true (λ z. grind (arith, nat_tests, z)) (turn _ _ _ c.loop-i-test.true c.loop-i.invariant.0 c.loop-i.invariant.1 (λ f e h. grind (arith, nat_tests)))
 
 pub loop-i-preserved : goal.loop-i-preserved
-loop-i-preserved c = (λ e. absurd (omega arith), λ _. more _ _ _ c.loop-i-test.true (grind (arith, nat_tests)) (turn _ _ _ c.loop-i-test.true c.loop-i.invariant.0 c.loop-i.invariant.1 (λ f e h. grind (arith, nat_tests))))
+loop-i-preserved c = (λ e. absurd (omega arith), λ _. rw c.from.ensures (more _ _ _ c.loop-i-test.true (grind (arith, nat_tests)) (turn _ _ _ c.loop-i-test.true c.loop-i.invariant.0 c.loop-i.invariant.1 (λ f e h. grind (arith, nat_tests)))))
 
-pub returns-then-size-most : goal.returns-then-size-most
-returns-then-size-most c = let e = last c.args.most c.args.digits.now _ _ c.loop-i-test.false c.if-count-eq0.false c.loop-i.invariant.1 in grind (arith, nat_tests, e)
+some_if : (x : Bool) (n : ℕ) → then_some x n ≡ cond x (Some n) None
+some_if true n = refl
+some_if false n = refl
 
-pub returns-else-size-most : goal.returns-else-size-most
-returns-else-size-most c = let e = last c.args.most c.args.digits.now _ _ c.loop-i-test.false c.if-count-eq0.false c.loop-i.invariant.1 in grind (arith, nat_tests, e)
+pub returns : goal.returns
+returns c = c.then_some.ensures ∙ some_if _ _ ∙ last c.args.most c.args.digits.now _ _ c.loop-i-test.false c.if-count-eq0.false c.loop-i.invariant.1

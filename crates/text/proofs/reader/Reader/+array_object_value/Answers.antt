@@ -15,12 +15,10 @@ use Rattle.text.proofs.reader.Reader.+array_object_value.Goals as goal
 use Rattle.text.proofs.reader.Reader.+array_object_value.Goals.{value-in-Object+in_ok-object-in-Object, value-in-Array+in_ok-array-in-Array, value-in_default}
 
 entry_goes : (f : Bool) (r s : Reader) (b : Bool) → b ≡ true → ReadsEntry f r s (Ok b) → (d : ℕ) → Onward (λ k. entries f d ∷ k) (λ k. value d ∷ entries false d ∷ k) r s
-entry_goes f r s true e p d = p d
-entry_goes f r s false e p d = absurd (let z : ◌≡◌ {A = ℕ} 0 1 = cc in omega arith)
+entry_goes f r s b e p = rw e at p
 
 entries_over : (f : Bool) (r s : Reader) (b : Bool) → b ≡ false → ReadsEntry f r s (Ok b) → (j : ℕ) × (s.at ≡ j + 1) × ((d : ℕ) → Passed (λ k. entries f d ∷ k) (λ k. k) (event end_array j) r s)
-entries_over f r s true e p = absurd (let z : ◌≡◌ {A = ℕ} 0 1 = cc in omega arith)
-entries_over f r s false e p = p
+entries_over f r s b e p = rw e at p
 
 member_goes : (f : Bool) (r s : Reader) (o : Member) (x : Placed (Bor (List ℕ))) → o ≡ Named x → ReadsMember f r s (Ok o) → NameRead (λ d k. members f d ∷ k) r s x.value.now x.offset
 member_goes f r s o x e p = rw e at p

@@ -1,13 +1,10 @@
-use Rattle.std.proofs.Common.{refl, arith}
-use Rattle.std.proofs.lemmas.Bool.Decides.{nat_tests}
-use Rattle.text.specs.Machine.{step}
-use Rattle.text.proofs.Steps.{one, bad_here}
+use Rattle.std.proofs.Common.{true, false, eqb, rules}
+use Rattle.text.specs.Ahead.{Separated}
+use Rattle.text.proofs.Steps.{alike, expected}
 use Rattle.text.proofs.reader.Reader.comma.Goals as goal
 
-pub returns-then-self-eq44 : goal.returns-then-self-eq44
-unfolding step
-returns-then-self-eq44 c d = one c.requires.inside refl refl (λ k. let w = c.requires.is in grind (arith, nat_tests))
+pub returns-then-first : goal.returns-then-first
+returns-then-first c f g h = let p : Separated true f g c.args.self.now = rw c.if-first.true at h in alike p.0 p.1
 
 pub returns : goal.returns
-unfolding step
-returns c d = bad_here c.requires.inside c.forbidden.ensures (λ k. let w = c.requires.is in grind (arith, nat_tests, c.requires.goes))
+returns c f g h = let p : Separated false f g c.args.self.now = rw c.if-first.false at h in expected f g (λ b. eqb b 44) _ c.expect.ensures (λ b x m. search rules) p.0 p.1

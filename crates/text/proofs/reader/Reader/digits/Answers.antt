@@ -1,12 +1,9 @@
-use Rattle.std.proofs.Common.{refl, arith}
-use Rattle.std.proofs.lemmas.Bool.Decides.{nat_tests}
+use Rattle.std.proofs.Common.{rules}
+use Rattle.std.proofs.lemmas.Bool.{cond-true}
+use Rattle.text.specs.Bytes.{digit}
 use Rattle.text.specs.Machine.{step}
-use Rattle.text.proofs.Steps.{one, stay, then}
 use Rattle.text.proofs.reader.Reader.digits.Goals as goal
 
-pub loop-self-init : goal.loop-self-init
-loop-self-init c p = stay
-
-pub loop-self-preserved : goal.loop-self-preserved
+pub returns : goal.returns
 unfolding step
-loop-self-preserved c p = then (c.loop-self.invariant p) (one c.loop-self-test.true refl refl (λ k. grind (arith, nat_tests)))
+returns c = record { runs = λ p. c.skip.ensures.runs _ (λ k b m. cond-true (digit b) _ _ (search rules)); stops = λ i. let q = c.skip.ensures.stops i in search rules }

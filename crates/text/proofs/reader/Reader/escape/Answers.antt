@@ -1,33 +1,16 @@
-use Rattle.std.proofs.Common.{refl, arith, rules}
+use Rattle.std.proofs.Common.{eqb, refl, arith, rules}
 use Rattle.std.proofs.lemmas.Bool.Decides.{nat_tests}
+use Rattle.text.specs.Bytes.{short_escape}
 use Rattle.text.specs.Machine.{step, over}
-use Rattle.text.proofs.Steps.{one, bad_here, bad_end, then, then_reads, broke}
+use Rattle.text.proofs.Steps.{byte_on, stayed, misses, expected, then_reads, met}
 use Rattle.text.proofs.reader.Reader.escape.Goals as goal
 
-pub returns-then-self : goal.returns-then-self
-unfolding over
-returns-then-self c = bad_end (omega arith) c.forbidden.ensures (λ k. refl)
-
-pub returns-in_err-hex_digit-in-117 : goal.returns-in_err-hex_digit-in-117
+pub returns-then-accept : goal.returns-then-accept
 unfolding step
-returns-in_err-hex_digit-in-117 c = broke _ _ c.from_residual.ensures.1 (one (omega arith) refl refl (λ k. grind (arith, nat_tests))) (c.in_err-hex_digit-in-117.ensures 3)
+returns-then-accept c = let p = c.accept.ensures.passed c.if-accept.true in then_reads _ _ _ (byte_on p (λ k. let e = met (λ b. eqb b 117) p (λ b x m. search rules) in grind (arith, nat_tests))) c.hex_digits.ensures
 
-pub returns-in_err-hex_digit-in-117-2 : goal.returns-in_err-hex_digit-in-117-2
-unfolding step
-returns-in_err-hex_digit-in-117-2 c = broke _ _ c.from_residual-in_err-hex_digit-in-117-2.ensures.1 (then (one (omega arith) refl refl (λ k. grind (arith, nat_tests))) (c.in_ok-hex_digit-in-117.ensures 3)) (c.in_err-hex_digit-in-117-2.ensures 2)
-
-pub returns-in_err-hex_digit-in-117-3 : goal.returns-in_err-hex_digit-in-117-3
-unfolding step
-returns-in_err-hex_digit-in-117-3 c = broke _ _ c.from_residual-in_err-hex_digit-in-117-3.ensures.1 (then (one (omega arith) refl refl (λ k. grind (arith, nat_tests))) (then (c.in_ok-hex_digit-in-117.ensures 3) (c.in_ok-hex_digit-in-117-2.ensures 2))) (c.in_err-hex_digit-in-117-3.ensures 1)
-
-pub returns-in-34 : goal.returns-in-34
-unfolding step
-returns-in-34 c = one (omega arith) refl refl (λ k. grind (arith, nat_tests))
-
-pub returns-in_ok-hex_digit-in-117-3 : goal.returns-in_ok-hex_digit-in-117-3
-unfolding step
-returns-in_ok-hex_digit-in-117-3 c = then_reads _ _ _ (then (one (omega arith) refl refl (λ k. grind (arith, nat_tests))) (then (c.in_ok-hex_digit-in-117.ensures 3) (then (c.in_ok-hex_digit-in-117-2.ensures 2) (c.in_ok-hex_digit-in-117-3.ensures 1)))) (c.hex_digit-in-117-3.ensures 0)
-
-pub returns-in_default : goal.returns-in_default
-unfolding step
-returns-in_default c = bad_here (omega arith) (search rules) (λ k. grind (arith, nat_tests))
+pub returns : goal.returns
+unfolding step over
+returns c =
+    let p = c.accept.ensures.left c.if-accept.false in
+    then_reads _ _ _ (stayed p.stays) (expected _ _ short_escape _ c.expect.ensures (λ b x m. search rules) (λ i k. let e = misses (λ b. eqb b 117) p (λ b x m. search rules) i in rw e refl) (λ k. refl))

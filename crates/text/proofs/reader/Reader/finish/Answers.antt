@@ -4,9 +4,9 @@ use Rattle.text.proofs.Steps.{ahead_end, bad_here, then_halted}
 use Rattle.text.proofs.Frames.{skip_end, end_forbidden}
 use Rattle.text.proofs.reader.Reader.finish.Goals as goal
 
-pub returns-then-self : goal.returns-then-self
-returns-then-self c = then_halted (c.blanks.ensures.runs (λ k. []) skip_end) (bad_here (omega arith) c.forbidden.ensures (λ k. end_forbidden _ (c.blanks.ensures.stops (omega arith))))
+pub returns-in-Some : goal.returns-in-Some
+returns-in-Some c = then_halted (c.blanks.ensures.runs (λ k. []) skip_end) (bad_here (omega arith) c.forbidden.ensures (λ k. end_forbidden _ (c.blanks.ensures.stops (omega arith))))
 
-pub returns : goal.returns
+pub returns-in-None : goal.returns-in-None
 unfolding over
-returns c = let p = c.blanks.ensures.runs (λ k. []) skip_end in (p.same, p.runs [] ∙ ahead_end _ [] (omega arith))
+returns-in-None c = let p = c.blanks.ensures.runs (λ k. []) skip_end in (p.same, p.runs [] ∙ ahead_end _ [] (omega arith))

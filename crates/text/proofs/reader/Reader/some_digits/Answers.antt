@@ -1,14 +1,13 @@
-use Rattle.std.proofs.Common.{refl, arith}
-use Rattle.std.proofs.lemmas.Bool.Decides.{nat_tests}
-use Rattle.text.specs.Machine.{step, over}
-use Rattle.text.proofs.Steps.{one, bad_here, bad_end, then, digits_over}
+use Rattle.std.proofs.Common.{◌∷◌, refl, rules}
+use Rattle.text.specs.Bytes.{digit}
+use Rattle.text.specs.Machine.{digits, step, over}
+use Rattle.text.proofs.Steps.{stay, then, expected, broke, digits_over}
 use Rattle.text.proofs.reader.Reader.some_digits.Goals as goal
-use Rattle.text.proofs.reader.Reader.some_digits.Goals.{then-self-via-then-self, then-self-via-else-self+then-not-is_ascii_digit}
 
-pub returns-then-self : goal.returns-then-self
+pub returns-in_err-expect : goal.returns-in_err-expect
 unfolding step over
-returns-then-self c p = elim c.then-self.branch [ then-self-via-then-self w ↦ bad_end (omega arith) c.forbidden.ensures (λ k. refl) | then-self-via-else-self+then-not-is_ascii_digit w ↦ bad_here (omega arith) c.forbidden.ensures (λ k. grind (arith, nat_tests)) ]
+returns-in_err-expect c p = broke _ _ c.from_residual.ensures.1 stay (expected _ (λ k. digits p ∷ k) digit _ c.in_err-expect.ensures (λ b x m. search rules) (λ i k. refl) (λ k. refl))
 
 pub returns : goal.returns
-unfolding step
-returns c p = then (one (omega arith) refl refl (λ k. grind (arith, nat_tests))) (then (c.digits.ensures.runs p) (digits_over p c.digits.ensures.stops))
+unfolding step over
+returns c p = then (expected _ _ digit _ c.in_ok-expect.ensures (λ b x m. search rules) (λ i k. refl) (λ k. refl)) (then (c.digits.ensures.runs p) (digits_over p c.digits.ensures.stops))

@@ -1,9 +1,9 @@
-use Rattle.std.proofs.Common.{ℕ, List, ◌∷◌, refl, ap, subst, arith}
+use Rattle.std.proofs.Common.{ℕ, List, ◌∷◌, ap, subst, arith}
 use Rattle.text.specs.declared.reader.Reader.{Reader}
 use Rattle.text.specs.declared.token.Token.{Token}
-use Rattle.text.specs.Machine.{value, over}
+use Rattle.text.specs.Machine.{value}
 use Rattle.text.specs.Ahead.{Onward, TokenAt, TokenRead, ReadsToken}
-use Rattle.text.proofs.Steps.{bad_end, then_passed, then_halted, broken}
+use Rattle.text.proofs.Steps.{then_passed, then_halted, broken}
 use Rattle.text.proofs.Frames.{skip_value}
 use Rattle.text.proofs.reader.Reader.token.Goals as goal
 
@@ -15,10 +15,6 @@ token_then d r s u x p q = record {
   token = let P : List ℕ → Type 0 = λ t. TokenAt t s.at u.at x in subst P (ap (λ y. y.now) p.same) q.token;
   passed = then_passed p q.passed;
 }
-
-pub returns-then-self : goal.returns-then-self
-unfolding over
-returns-then-self c = then_halted (c.blanks.ensures.runs _ (skip_value c.args.levels)) (bad_end (omega arith) c.forbidden.ensures (λ k. refl))
 
 pub returns-in_err-value : goal.returns-in_err-value
 returns-in_err-value c = broken (ReadsToken _ _ _) _ c.from_residual.ensures.1 (then_halted (c.blanks.ensures.runs _ (skip_value c.args.levels)) c.in_err-value.ensures)

@@ -1,21 +1,12 @@
-use Rattle.std.proofs.Common.{refl, arith, rules}
-use Rattle.std.proofs.lemmas.Bool.Decides.{nat_tests}
+use Rattle.std.proofs.Common.{eqb, refl, rules}
 use Rattle.text.specs.Machine.{whole, step, over}
-use Rattle.text.proofs.Steps.{one, bad_here, bad_end, then, digits_over}
+use Rattle.text.proofs.Steps.{took, kept, then_reads}
 use Rattle.text.proofs.reader.Reader.whole_part.Goals as goal
 
-pub returns-then-self : goal.returns-then-self
-unfolding over
-returns-then-self c = bad_end (omega arith) c.forbidden.ensures (λ k. refl)
-
-pub returns-in-48 : goal.returns-in-48
+pub returns-then-accept : goal.returns-then-accept
 unfolding step
-returns-in-48 c = one (omega arith) refl refl (λ k. grind (arith, nat_tests))
+returns-then-accept c = took (λ b. eqb b 48) _ (c.accept.ensures.passed c.if-accept.true) (λ b x m. search rules) (λ k. refl)
 
-pub returns-in-49-to-57 : goal.returns-in-49-to-57
-unfolding step
-returns-in-49-to-57 c = then (one (omega arith) refl refl (λ k. grind (arith, nat_tests))) (then (c.digits.ensures.runs whole) (digits_over whole c.digits.ensures.stops))
-
-pub returns-in_default : goal.returns-in_default
-unfolding step
-returns-in_default c = bad_here (omega arith) (search rules) (λ k. grind (arith, nat_tests))
+pub returns : goal.returns
+unfolding step over
+returns c = then_reads _ _ _ (kept (λ b. eqb b 48) _ (c.accept.ensures.left c.if-accept.false) (λ b x m. search rules) (λ k. refl) (λ k. refl)) (c.some_digits.ensures whole)
