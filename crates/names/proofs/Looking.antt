@@ -1,8 +1,9 @@
 -- Looking a string up among names.
-use Rattle.std.proofs.Common.{◌≡◌, ℕ, zero, suc, ◌+◌, ◌-◌, ◌<◌, ◌≤◌, min, Bool, true, false, List, [], ◌∷◌, length, get_or, drop, Some, None, Option, sym, refl, ap, ◌∙◌, inl, inr, arith, length-drop, eq-eqb}
+use Rattle.std.proofs.Common.{◌≡◌, ℕ, zero, suc, ◌-◌, ◌<◌, ◌≤◌, min, Bool, true, false, List, [], ◌∷◌, length, get_or, drop, Some, None, Option, sym, refl, ap, ◌∙◌, inl, inr, arith, length-drop, eq-eqb}
 use Rattle.std.proofs.lemmas.Bool.Decides.{nat_tests}
+use Rattle.std.specs.Option.{MatchOption}
 use Rattle.std.proofs.lemmas.Bool.{cases_lt}
-use Rattle.std.proofs.lemmas.List.{drop_more, drop_all, take_all}
+use Rattle.std.proofs.lemmas.List.{take_all}
 use Rattle.text.specs.Strings.{matching, alike, Tells}
 use Rattle.text.proofs.Matching.{match_true, match_false}
 use Rattle.names.specs.Names.{part, names_from, names_of, name_at, later, place}
@@ -76,30 +77,24 @@ part_within ls a b m e = elim (cases_lt b (length ls)) [ inl h ↦ ap (part ls a
 pub part_none : (ls : List ℕ) (a b m : ℕ) → m ≡ min b (length ls) → m ≤ a → part ls a b ≡ []
 part_none ls a b m e h = sym (part_within ls a b m e) ∙ (let k : m - a ≡ 0 = omega arith in rw k refl)
 
--- so many places further on
-abbrev pub further : ℕ → Option ℕ → Option ℕ
-further n None = None
-further n (Some i) = Some (n + i)
-
-further_later : (n : ℕ) (o : Option ℕ) → further n (later o) ≡ further (n + 1) o
-further_later n None = refl
-further_later n (Some i) = ap (λ (k : ℕ). Some k) (omega arith)
-
-pub first_name : (x : List ℕ) (ns : List (List ℕ)) (i : ℕ) → i < length ns → matching false x (get_or ns i []) ≡ true → further i (place x (drop i ns)) ≡ Some i
+-- none of the names is spelled so
+pub place_none : (x : List ℕ) (ns : List (List ℕ)) → ((k : ℕ) → k < length ns → matching false x (get_or ns k []) ≡ false) → place x ns ≡ None
 unfolding place
-first_name x ns i h e = rw (drop_more ns i [] h, place, e) (ap (λ (k : ℕ). Some k) (omega arith))
+place_none x [] h = refl
+place_none x (n ∷ ns) h = rw (place, h 0 (omega arith)) (ap later (place_none x ns (λ k l. h (suc k) (omega arith))))
 
-pub next_name : (x : List ℕ) (ns : List (List ℕ)) (i : ℕ) → i < length ns → matching false x (get_or ns i []) ≡ false → further i (place x (drop i ns)) ≡ further (i + 1) (place x (drop (i + 1) ns))
+-- the name at i is spelled so, and none before it
+pub place_at : (x : List ℕ) (ns : List (List ℕ)) (i : ℕ) → i < length ns → matching false x (get_or ns i []) ≡ true → ((k : ℕ) → k < i → matching false x (get_or ns k []) ≡ false) → place x ns ≡ Some i
 unfolding place
-next_name x ns i h e = rw (drop_more ns i [] h, place, e) (further_later i (place x (drop (i + 1) ns)))
+place_at x [] i l m h = absurd (omega arith)
+place_at x (n ∷ ns) zero l m h = rw (place, m) refl
+place_at x (n ∷ ns) (suc i) l m h = rw (place, h 0 (omega arith)) (ap later (place_at x ns i (omega arith) m (λ k l. h (suc k) (omega arith))))
 
-pub no_name : (x : List ℕ) (ns : List (List ℕ)) (i : ℕ) → length ns ≤ i → further i (place x (drop i ns)) ≡ None
-unfolding place
-no_name x ns i h = rw (drop_all i ns h) refl
-
-further_none : (o : Option ℕ) → further 0 o ≡ o
-further_none None = refl
-further_none (Some i) = ap (λ (k : ℕ). Some k) (omega arith)
-
-pub from_first : (x : List ℕ) (ns : List (List ℕ)) → place x ns ≡ further 0 (place x (drop 0 ns))
-from_first x ns = sym (further_none (place x ns))
+-- the place is what a search along the names finds
+pub place_found :
+    (x : List ℕ) (ns : List (List ℕ)) (n : ℕ) (o : Option ℕ)
+    → n ≡ length ns
+    → MatchOption o ((k : ℕ) → 0 ≤ k → k < n → matching false x (get_or ns k []) ≡ false) (λ i. (0 ≤ i) × (i < n) × (matching false x (get_or ns i []) ≡ true) × ((k : ℕ) → 0 ≤ k → k < i → matching false x (get_or ns k []) ≡ false))
+    → o ≡ place x ns
+place_found x ns n None e h = sym (place_none x ns (λ k l. h k (omega arith) (omega arith)))
+place_found x ns n (Some i) e h = sym (place_at x ns i (omega arith) h.2 (λ k l. h.3 k (omega arith) l))

@@ -3,3 +3,5 @@ pub mod Same
 pub mod Numbers
 pub mod Names
 pub mod Vocabulary
+pub mod Named
+pub mod Kinds

@@ -1,9 +1,4 @@
 // The sources, pixel formats, attributes and value words of the task language, numbered from 1 in this order.
-ghost use Rattle.std.specs.Prelude.{◌==◌};
-ghost use Rattle.names.specs.Codes.{attribute_code};
-ghost use Rattle.std.specs.Cmp.Rules.{comparing};
-ghost use Rattle.std.proofs.Common.{rules};
-ghost use Rattle.std.specs.Cmp.{partial_equiv_from_equiv};
 
 // Where the sheets come from.
 #[derive(Clone, Copy, PartialEq, Eq, Debug)]
@@ -27,7 +22,7 @@ pub enum PixelFormat {
 }
 
 // What can be set at a pair of a source and a pixel format.
-#[derive(Clone, Copy, Debug)]
+#[derive(Clone, Copy, Debug, PartialEq, Eq)]
 pub enum Attribute {
     Alarms,
     AlarmVolume,
@@ -89,23 +84,8 @@ pub enum Word {
     FrontRightOfRear,
 }
 
-// Two attributes are equal where their numbers are.
-impl PartialEq for Attribute {
-    ghost eq = { λ a b. (attribute_code a == attribute_code b) };
-
-    ghost laws = { partial_equiv_from_equiv (Prim.search (comparing, rules)) };
-
-    fn eq(&self, other: &Attribute) -> bool {
-        *self as u8 == *other as u8
-    }
-}
-
-impl Eq for Attribute {
-    ghost laws = { Prim.search (comparing, rules) };
-}
-
 // The value of an attribute.
-#[derive(Clone, Copy, PartialEq, Eq, Debug)]
+#[derive(Clone, Copy, Debug, Eq, PartialEq)]
 pub enum Value {
     Word(Word),
     Number(i32),

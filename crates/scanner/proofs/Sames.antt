@@ -1,12 +1,16 @@
 -- Names that a test finds the same are equal, each is the same as itself, and states that agree are equal.
-use Rattle.std.proofs.Common.{◌≡◌, ℕ, true, ◌&&◌, [], ◌∷◌, get_or, sym, refl, ap, ◌∙◌}
+use Rattle.std.proofs.Common.{◌≡◌, ℕ, true, ◌&&◌, [], ◌∷◌, get_or, sym, refl, ap, ◌∙◌, rules}
 use Rattle.std.proofs.lemmas.Bool.{and_parts, and_from, eqb-true, eq-eqb}
 use Rattle.names.specs.declared.kinds.Source.{Source}
 use Rattle.names.specs.declared.kinds.PixelFormat.{PixelFormat}
 use Rattle.names.specs.declared.kinds.Attribute.{Attribute}
 use Rattle.names.specs.Codes.{source_code, format_code, attribute_code}
 use Rattle.names.specs.Same.{same_source, same_format, same_attribute}
+use Rattle.names.specs.contracts.kinds.SourcePartialEq as sources
+use Rattle.names.specs.contracts.kinds.PixelFormatPartialEq as formats
+use Rattle.names.specs.contracts.kinds.AttributePartialEq as attributes
 use Rattle.scanner.specs.declared.point.Point.{Point}
+use Rattle.scanner.specs.contracts.point.PointPartialEq as points
 use Rattle.scanner.specs.Meaning.{State, Agree, same_point}
 
 -- a list of all names, in the order of their codes, gives each back at its code
@@ -101,3 +105,16 @@ point_refl a =
 
 pub whole : {a b : State} → Agree a b → a ≡ b
 whole h = λ i. record { enabled = λ s f. h.enabled s f i; current = λ p. h.current p i }
+
+-- the derived comparison of points goes by the numbers of the three parts
+source_test : (a b : Source) → sources.TheImpl.ghosts.eq a b ≡ same_source a b
+source_test a b = search rules
+
+format_test : (a b : PixelFormat) → formats.TheImpl.ghosts.eq a b ≡ same_format a b
+format_test a b = search rules
+
+attribute_test : (a b : Attribute) → attributes.TheImpl.ghosts.eq a b ≡ same_attribute a b
+attribute_test a b = search rules
+
+pub point_test : (a b : Point) → points.TheImpl.ghosts.eq a b ≡ same_point a b
+point_test a b = let s = source_test a.source b.source in let f = format_test a.format b.format in let t = attribute_test a.attribute b.attribute in cc

@@ -1,10 +1,12 @@
 // What a scanner means, and how a plan is put into one.
 #![tactic(auto)]
 
+pub mod equality;
 pub mod meaning;
 pub mod plan;
 pub mod point;
 
+pub use equality::point_equality_stands;
 pub use meaning::Scanner;
 pub use plan::{Item, put_in};
 pub use point::Point;

@@ -1,4 +1,6 @@
 // A scanner, by what it means: what it offers never changes; which pairs are enabled, and the current values, do.
+// A source and a format go apart: as one struct they would be put together at each call and taken apart again in each scanner.
+// That the catalogue stays is said at each of the three calls that write: it ties two states, which no invariant can.
 ghost use Rattle.std.specs.Prelude.{◌≡◌, true, is_some, if◌then◌else◌};
 ghost use Rattle.names.specs.declared.kinds.Source.{Source};
 ghost use Rattle.scanner.specs.Meaning.{Catalogue, State, Agree, powered, enabling, setting};
