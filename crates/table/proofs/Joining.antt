@@ -1,5 +1,5 @@
 -- How readings follow one another, and how they stop.
-use Rattle.std.proofs.Common.{◌≡◌, ℕ, List, Err, refl, ap, ◌∙◌, arith}
+use Rattle.std.proofs.Common.{◌≡◌, ℕ, List, IsErrAnd, Ok, Err, Result, refl, ap, ◌∙◌, arith}
 use Rattle.text.specs.declared.reader.Reader.{Reader}
 use Rattle.text.specs.declared.fault.TextFault.{TextFault}
 use Rattle.text.specs.Machine.{Frame, Kind, Tape, ending, good, fault, event}
@@ -50,6 +50,14 @@ in_the_form {rule = rule} {i = i} h = record {
   in_form = λ rule' j z k ps. h k ps ∙ (let a : rule ≡ rule' = cc in let b : i ≡ j = cc in cc);
   light = λ z. let y : ◌≡◌ {A = ℕ} 0 1 = cc in omega arith;
 }
+
+-- a result that left by `?` has the fault that it left by
+pub broken : {X : Type 0} (P : Result X TableFault → Type 0) {e : TableFault} (x : Result X TableFault) → IsErrAnd x (λ y. y ≡ e) → P (Err e) → P x
+broken P (Ok y) b p = absurd b
+broken P (Err d) b p = rw b p
+
+pub same_fault : {X : Type 0} {d e : TableFault} → ◌≡◌ {A = Result X TableFault} (Err d) (Err e) → d ≡ e
+same_fault h = cc
 
 pub stops_is : {t : List ℕ} {f : Stack} {p : States} {r : Reader} {d e : TableFault} → d ≡ e → Stops t f p r e → Stops t f p r d
 stops_is q a = rw q a

@@ -1,6 +1,6 @@
 -- Going into an object and out again leaves the place record as it was.
 use Rattle.std.proofs.Common.{◌≡◌, ℕ, zero, suc, List, [], ◌∷◌, get_or, set, Some, None, Option, refl, ap, ◌∙◌}
-use lib.Seq.{set-get_or}
+use Rattle.std.proofs.lemmas.List.{set-get_or}
 use Rattle.table.specs.declared.level.Level.{Level}
 use Rattle.table.specs.declared.place.Place.{Place}
 use Rattle.table.specs.Levels.{level_code}

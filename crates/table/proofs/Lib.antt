@@ -1,8 +1,8 @@
 pub mod Leaving
-pub mod Taking
 pub mod Joining
 pub mod Asides
 pub mod Rules
+pub mod Judgement
 pub mod Fillings
 pub mod Reading
-pub mod Judgement
+pub mod Choosing

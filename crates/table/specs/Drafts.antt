@@ -1,5 +1,6 @@
 -- An object of which some members were read: what each member does to it, and what it comes to at its end.
 use Rattle.std.specs.Prelude.{ℕ, Bool, true, false, List, replicate, Some, None, Option, slice_index_or, slice_set}
+use Rattle.std.specs.Option.{option_map}
 use Rattle.text.specs.declared.token.Placed.{Placed}
 use Rattle.names.specs.declared.kinds.Source.{Source}
 use Rattle.names.specs.declared.kinds.PixelFormat.{PixelFormat}
@@ -102,17 +103,40 @@ taken x Key.Attribute i d = Some (with_word (word_meaning d.level x) i d)
 taken x Key.Value i d = Some (with_word (word_meaning d.level x) i d)
 
 -- the parts of a meaning
+abbrev pub verb_said : Meaning → Option Verb
+verb_said (Meaning.Verb v) = Some v
+verb_said (Meaning.Source w) = None
+verb_said (Meaning.PixelFormat w) = None
+verb_said (Meaning.Attribute a) = None
+verb_said (Meaning.Value v) = None
+
+abbrev pub source_said : Meaning → Option (Wanted Source)
+source_said (Meaning.Verb v) = None
+source_said (Meaning.Source w) = Some w
+source_said (Meaning.PixelFormat w) = None
+source_said (Meaning.Attribute a) = None
+source_said (Meaning.Value v) = None
+
+abbrev pub format_said : Meaning → Option (Wanted PixelFormat)
+format_said (Meaning.Verb v) = None
+format_said (Meaning.Source w) = None
+format_said (Meaning.PixelFormat w) = Some w
+format_said (Meaning.Attribute a) = None
+format_said (Meaning.Value v) = None
+
+-- a part of the word that came, at the word's offset
+abbrev pub in_word : {T : Type 0} → (Meaning → Option T) → Option (Placed Meaning) → Option (Placed T)
+in_word part None = None
+in_word part (Some p) = option_map (λ v. placed v p.offset) (part p.value)
+
 abbrev pub verb_in : Option (Placed Meaning) → Option (Placed Verb)
-verb_in None = None
-verb_in (Some p) = elim p.value [ Meaning.Verb v ↦ Some (placed v p.offset) | Meaning.Source w ↦ None | Meaning.PixelFormat w ↦ None | Meaning.Attribute a ↦ None | Meaning.Value v ↦ None ]
+verb_in = in_word verb_said
 
 abbrev pub source_in : Option (Placed Meaning) → Option (Placed (Wanted Source))
-source_in None = None
-source_in (Some p) = elim p.value [ Meaning.Verb v ↦ None | Meaning.Source w ↦ Some (placed w p.offset) | Meaning.PixelFormat w ↦ None | Meaning.Attribute a ↦ None | Meaning.Value v ↦ None ]
+source_in = in_word source_said
 
 abbrev pub format_in : Option (Placed Meaning) → Option (Placed (Wanted PixelFormat))
-format_in None = None
-format_in (Some p) = elim p.value [ Meaning.Verb v ↦ None | Meaning.Source w ↦ None | Meaning.PixelFormat w ↦ Some (placed w p.offset) | Meaning.Attribute a ↦ None | Meaning.Value v ↦ None ]
+format_in = in_word format_said
 
 abbrev pub attribute_in : Meaning → Option Attribute
 attribute_in (Meaning.Verb v) = None

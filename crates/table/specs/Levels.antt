@@ -96,6 +96,15 @@ knows l Key.PixelFormat = same_level l Level.PixelFormat
 knows l Key.Attribute = same_level l Level.Attribute
 knows l Key.Value = same_level l Level.Value
 
+-- a member name that is an array's, or that the level knows
+abbrev pub known_if : Bool → Key → Option Key
+known_if true key = Some key
+known_if false key = None
+
+abbrev pub known : Level → Option Key → Option Key
+known l None = None
+known l (Some key) = known_if (is_array_name key || knows l key) key
+
 -- how many objects of a level an array may have
 abbrev pub limit : Level → ℕ
 limit Level.Task = 1

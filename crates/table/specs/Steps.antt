@@ -1,6 +1,8 @@
 -- What each step at the object that is being read does, and how it is refused.
 use Rattle.std.specs.Prelude.{◌≡◌, ℕ, true, false, List, Some, None, Ok, Err, Option, Result}
 use Rattle.text.specs.declared.token.Placed.{Placed}
+use Rattle.std.specs.Option.{option_map}
+use Rattle.table.specs.declared.meaning.Meaning.{Meaning}
 use Rattle.table.specs.declared.keys.Key.{Key}
 use Rattle.table.specs.declared.level.Level.{Level}
 use Rattle.table.specs.declared.exception.Exception.{Exception}
@@ -36,3 +38,8 @@ Allowed x l i r = AllowedBy (exception_spelled x) l i r
 abbrev pub Ends : ℕ → Option Record → Result Record TableFault → Type 0
 Ends i o (Ok r) = o ≡ Some r
 Ends i o (Err e) = (o ≡ None) × (e ≡ Form NamesakeMissing i)
+
+-- what a part of a meaning finds in a word, at the word's offset
+abbrev pub Asks : {T : Type 0} → (Meaning → Option T → Type 0) → Option (Placed Meaning) → Option (Placed T) → Type 0
+Asks P None r = r ≡ None
+Asks P (Some p) r = (o : _) × P p.value o × (r ≡ option_map (λ v. placed v p.offset) o)

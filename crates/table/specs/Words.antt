@@ -1,15 +1,18 @@
 -- What strings say: the names of members, exceptions, the vendor, and the words of objects.
-use Rattle.std.specs.Prelude.{◌≡◌, ℕ, Bool, true, false, not, List, [], ◌∷◌, map, Some, None, codes, Option}
+use Rattle.std.specs.Prelude.{◌≡◌, ℕ, Bool, true, false, not, List, [], ◌∷◌, map, Some, None, codes, Option, refl}
 use Rattle.std.specs.Option.{option_map}
 use Rattle.text.specs.Strings.{stands, lowered, matching}
 use Rattle.text.specs.Numbers.{integer_of}
 use Rattle.text.specs.Parts.{string_part, number_part}
 use Rattle.text.specs.Machine.{Kind, begin_object, end_object, begin_array, end_array, name, string, number, literal_true, literal_false, literal_null}
 use Rattle.names.specs.declared.kinds.Value.{Value}
-use Rattle.names.specs.Names.{names_of, distinct}
+use Rattle.names.specs.Names.{name_at, names_of, distinct}
+use Rattle.names.specs.Numbers.{numbered}
+use Rattle.names.specs.Named.{NamedLaws}
 use Rattle.names.specs.Vocabulary.{listed, source_spelled, format_spelled, attribute_spelled, word_spelled}
 use Rattle.table.specs.declared.keys.Key.{Key}
 use Rattle.table.specs.declared.level.Level.{Level}
+use Rattle.table.specs.Levels.{key_code}
 use Rattle.table.specs.declared.exception.Exception.{Exception}
 use Rattle.table.specs.declared.record.Verb.{Verb}
 use Rattle.table.specs.declared.record.Wanted.{Wanted}
@@ -19,13 +22,27 @@ use Rattle.table.specs.declared.meaning.Meaning.{Meaning}
 abbrev pub keys : List Key
 keys = Key.Actions ∷ Key.Streams ∷ Key.Sources ∷ Key.PixelFormats ∷ Key.Attributes ∷ Key.Values ∷ Key.Comment ∷ Key.Exception ∷ Key.Vendor ∷ Key.Name ∷ Key.Action ∷ Key.Source ∷ Key.PixelFormat ∷ Key.Attribute ∷ Key.Value ∷ []
 
--- their letters, and where each starts
+-- the letters of their names, end to end, and where each starts
+unfoldable pub key_letters : List ℕ
+key_letters = codes "actionsstreamssourcespixelFormatsattributesvaluescommentexceptionvendornameactionsourcepixelFormatattributevalue"
+
+unfoldable pub key_starts : List ℕ
+key_starts = 0 ∷ 7 ∷ 14 ∷ 21 ∷ 33 ∷ 43 ∷ 49 ∷ 56 ∷ 65 ∷ 71 ∷ 75 ∷ 81 ∷ 87 ∷ 98 ∷ 107 ∷ 112 ∷ []
+
 unfoldable pub key_names : List (List ℕ)
-key_names = names_of (codes "actionsstreamssourcespixelFormatsattributesvaluescommentexceptionvendornameactionsourcepixelFormatattributevalue") (0 ∷ 7 ∷ 14 ∷ 21 ∷ 33 ∷ 43 ∷ 49 ∷ 56 ∷ 65 ∷ 71 ∷ 75 ∷ 81 ∷ 87 ∷ 98 ∷ 107 ∷ 112 ∷ [])
+key_names = names_of key_letters key_starts
+
+-- the name of one of them
+abbrev pub key_name : Key → List ℕ
+key_name k = name_at key_letters key_starts (key_code k)
 
 -- the member name that is spelled so
 unfoldable pub key_spelled : List ℕ → Option Key
 key_spelled = listed keys Key.Actions key_names
+
+pub key_laws : NamedLaws key_letters key_starts keys Key.Actions key_code key_name key_spelled (numbered keys)
+unfolding key_starts key_names key_spelled
+key_laws = record { as_many = refl; named = λ k. refl; looked_up = λ x. refl; counted = λ n. refl }
 
 -- no two member names are the same
 abbrev pub KeysApart : Type 0

@@ -1,16 +1,15 @@
 // What is known so far of the object that is being read.
 ghost use Rattle.std.specs.Prelude.{◌≡◌};
 ghost use Rattle.text.specs.Strings.{stands};
-ghost use Rattle.table.specs.Drafts.{fresh, record_of, verb_in, source_in, format_in, attribute_in, value_in};
-ghost use Rattle.table.specs.Steps.{Notes, Takes, Allowed, Ends};
+ghost use Rattle.table.specs.Drafts.{fresh, record_of};
+ghost use Rattle.table.specs.Steps.{Notes, Takes, Allowed, Ends, Asks};
 
 use crate::exception::Exception;
 use crate::fault::{FormRule, TableFault};
 use crate::keys::{KEY_COUNT, Key};
 use crate::level::Level;
 use crate::meaning::Meaning;
-use crate::record::{Head, Record, Verb, Wanted};
-use names::{Attribute, PixelFormat, Source, Value};
+use crate::record::{Head, Record};
 use text::{Placed, spells_ignoring_case};
 
 // Objects for another vendor than this one are skipped.
@@ -63,6 +62,7 @@ impl Draft {
     }
 
     // Takes the string of a known member, which stands at `offset`.
+    #[tactic(auto, using(names::proofs::Looking::tested), unfolding(crate::specs::Drafts::taken, crate::specs::Words::foreign, crate::specs::Words::vendor))]
     pub(crate) fn take(&mut self, key: Key, raw: &[u8], offset: usize) -> Result<(), TableFault>
         ensures { Takes (stands raw.now) key offset self.old self.new result }
     {
@@ -85,35 +85,27 @@ impl Draft {
     pub(crate) fn record(&self, brace: usize) -> Result<Record, TableFault>
         ensures { Ends brace (record_of self.now) result }
     {
+        let missing = TableFault::Form(FormRule::NamesakeMissing, brace);
         match self.level {
             Level::Task => Ok(Record::Vacant),
-            Level::Action => Ok(Record::Action(self.head, verb(self.word), self.entries)),
+            Level::Action => Ok(Record::Action(
+                self.head,
+                asked(self.word, Meaning::verb),
+                self.entries,
+            )),
             Level::Stream => Ok(Record::Stream(self.head)),
-            Level::Source => Ok(Record::Source(self.head, source(self.word))),
-            Level::PixelFormat => Ok(Record::PixelFormat(self.head, pixel_format(self.word))),
+            Level::Source => Ok(Record::Source(self.head, asked(self.word, Meaning::source))),
+            Level::PixelFormat => Ok(Record::PixelFormat(
+                self.head,
+                asked(self.word, Meaning::pixel_format),
+            )),
             Level::Attribute => {
-                let Some(word) = self.word else {
-                    return Err(TableFault::Form(FormRule::NamesakeMissing, brace));
-                };
-                Ok(Record::Attribute(
-                    self.head,
-                    Placed {
-                        value: attribute(word.value),
-                        offset: word.offset,
-                    },
-                ))
+                let word = self.word.ok_or(missing)?;
+                Ok(Record::Attribute(self.head, read_as(word, Meaning::attribute)))
             }
             Level::Value => {
-                let Some(word) = self.word else {
-                    return Err(TableFault::Form(FormRule::NamesakeMissing, brace));
-                };
-                Ok(Record::Value(
-                    self.head,
-                    Placed {
-                        value: value(word.value),
-                        offset: word.offset,
-                    },
-                ))
+                let word = self.word.ok_or(missing)?;
+                Ok(Record::Value(self.head, read_as(word, Meaning::value)))
             }
         }
     }
@@ -126,68 +118,35 @@ fn allowed_exception(
 ) -> Result<Placed<Exception>, TableFault>
     ensures { Allowed (stands raw.now) level offset result }
 {
-    match Exception::spelled(raw) {
-        Some(value) if level.allows(value) => Ok(Placed { value, offset }),
-        _ => Err(TableFault::Form(FormRule::WrongKind, offset)),
+    Exception::spelled(raw)
+        .filter(|exception| level.allows(*exception))
+        .map(|value| Placed { value, offset })
+        .ok_or(TableFault::Form(FormRule::WrongKind, offset))
+}
+
+// What `part` makes of a word, at the word's offset.
+fn read_as<T, F: FnOnce(Meaning) -> T>(word: Placed<Meaning>, part: F) -> Placed<T>
+    requires { F.IsAlwaysCallable part }
+    ensures { F.post part word.value result.value × (result.offset ≡ word.offset) }
+{
+    Placed {
+        value: part(word.value),
+        offset: word.offset,
     }
 }
 
-fn verb(word: Option<Placed<Meaning>>) -> Option<Placed<Verb>>
-    ensures { result ≡ verb_in word }
+// What `part` finds in the word, at the word's offset; none where there is no word, or nothing is found.
+fn asked<T, F: FnOnce(Meaning) -> Option<T>>(
+    word: Option<Placed<Meaning>>,
+    part: F,
+) -> Option<Placed<T>>
+    requires { F.IsAlwaysCallable part }
+    ensures { Asks (F.post part) word result }
 {
-    match word {
-        Some(
-            Placed {
-                value: Meaning::Verb(value),
-                offset,
-            },
-        ) => Some(Placed { value, offset }),
-        _ => None,
-    }
-}
-
-fn source(word: Option<Placed<Meaning>>) -> Option<Placed<Wanted<Source>>>
-    ensures { result ≡ source_in word }
-{
-    match word {
-        Some(
-            Placed {
-                value: Meaning::Source(value),
-                offset,
-            },
-        ) => Some(Placed { value, offset }),
-        _ => None,
-    }
-}
-
-fn pixel_format(word: Option<Placed<Meaning>>) -> Option<Placed<Wanted<PixelFormat>>>
-    ensures { result ≡ format_in word }
-{
-    match word {
-        Some(
-            Placed {
-                value: Meaning::PixelFormat(value),
-                offset,
-            },
-        ) => Some(Placed { value, offset }),
-        _ => None,
-    }
-}
-
-fn attribute(word: Meaning) -> Option<Attribute>
-    ensures { result ≡ attribute_in word }
-{
-    match word {
-        Meaning::Attribute(value) => value,
-        _ => None,
-    }
-}
-
-fn value(word: Meaning) -> Option<Value>
-    ensures { result ≡ value_in word }
-{
-    match word {
-        Meaning::Value(value) => value,
-        _ => None,
-    }
+    let word = word?;
+    let value = part(word.value)?;
+    Some(Placed {
+        value,
+        offset: word.offset,
+    })
 }

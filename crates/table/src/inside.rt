@@ -33,6 +33,23 @@ pub struct Inside<'a> {
     pub outer: Option<u32>,
 }
 
+impl<'a> Inside<'a> {
+    // Goes into an object, until the end of what is returned.
+    pub fn enter(place: &'a mut Place, level: Level, index: u32) -> Inside<'a>
+        ensures same_reference { result.place.ghost_name ≡ place.entry.ghost_name }
+        ensures place { result.place.now ≡ entered place.old level index }
+        ensures level { result.level ≡ level }
+        ensures outer { result.outer ≡ slice_index_or place.old.steps (level_code level) None }
+    {
+        let outer = place.enter(level, index);
+        Inside {
+            place,
+            level,
+            outer,
+        }
+    }
+}
+
 impl Drop for Inside<'_> {
     fn drop(self)
         ensures { self.exit.0.now ≡ restored self.entry.place.now self.entry.level self.entry.outer }

@@ -1,10 +1,13 @@
 // The member names that some level of a task knows.
-ghost use Rattle.std.specs.Prelude.{◌≡◌, ◌<◌};
-ghost use Rattle.text.specs.Strings.{stands};
-ghost use Rattle.table.specs.Levels.{key_code, is_array_name};
-ghost use Rattle.table.specs.Words.{key_spelled};
+#![tactic(auto, unfolding(crate::specs::Words::key_letters, crate::specs::Words::key_starts))]
 
-use names::position;
+ghost use Rattle.std.specs.Prelude.{◌≡◌, ◌<◌};
+ghost use Rattle.names.specs.Numbers.{numbered};
+ghost use Rattle.table.specs.declared.keys.Key.{Key};
+ghost use Rattle.table.specs.Levels.{key_code, is_array_name};
+ghost use Rattle.table.specs.Words.{keys, key_letters, key_starts, key_name, key_spelled, key_laws};
+
+use names::Named;
 
 #[derive(Clone, Copy, PartialEq, Eq, Debug)]
 pub enum Key {
@@ -28,7 +31,7 @@ pub enum Key {
 // How many member names there are.
 pub const KEY_COUNT: usize = 15;
 
-// Their letters, end to end, and where each starts.
+// Their letters, end to end, and where each starts: one table, as for the names of the vocabulary.
 const KEY_LETTERS: [u8; 112] =
     *b"actionsstreamssourcespixelFormatsattributesvaluescommentexceptionvendornameactionsourcepixelFormatattributevalue";
 
@@ -36,7 +39,7 @@ const KEY_STARTS: [u16; 16] = [
     0, 7, 14, 21, 33, 43, 49, 56, 65, 71, 75, 81, 87, 98, 107, 112,
 ];
 
-const KEYS: [Key; 15] = [
+const KEYS: [Key; KEY_COUNT] = [
     Key::Actions,
     Key::Streams,
     Key::Sources,
@@ -54,30 +57,56 @@ const KEYS: [Key; 15] = [
     Key::Value,
 ];
 
-impl Key {
-    // The member name that a string spells.
-    pub(crate) fn spelled(raw: &[u8]) -> Option<Key>
-        ensures { result ≡ key_spelled (stands raw.now) }
-    {
-        match position(&KEY_LETTERS, &KEY_STARTS, raw) {
-            Some(i) => Some(KEYS[i]),
-            None => None,
-        }
+impl Named for Key {
+    ghost letters = { key_letters };
+
+    ghost starts = { key_starts };
+
+    ghost all = { keys };
+
+    ghost first = { Key.Actions };
+
+    ghost code = { key_code };
+
+    ghost name = { key_name };
+
+    ghost spelled = { key_spelled };
+
+    ghost numbered = { numbered keys };
+
+    ghost laws = { key_laws };
+
+    fn letters() -> &'static [u8] {
+        &KEY_LETTERS
     }
 
+    fn starts() -> &'static [u16] {
+        &KEY_STARTS
+    }
+
+    fn all() -> &'static [Key] {
+        &KEYS
+    }
+
+    fn code(self) -> usize {
+        self.index()
+    }
+}
+
+impl Key {
     // Whether it names the array of some level.
     pub(crate) fn is_array(self) -> bool
         ensures { result ≡ is_array_name self }
     {
-        match self {
+        matches!(
+            self,
             Key::Actions
-            | Key::Streams
-            | Key::Sources
-            | Key::PixelFormats
-            | Key::Attributes
-            | Key::Values => true,
-            _ => false,
-        }
+                | Key::Streams
+                | Key::Sources
+                | Key::PixelFormats
+                | Key::Attributes
+                | Key::Values
+        )
     }
 
     // Its place among the member names.

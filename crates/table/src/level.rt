@@ -1,12 +1,15 @@
 // The levels of a task: which members each knows, and what its parts are.
 ghost use Rattle.std.specs.Prelude.{◌≡◌, suc, ◌<◌, ◌≤◌, IfSome};
-ghost use Rattle.table.specs.Levels.{level_code, part, knows, limit, allows, absent_weight};
+ghost use Rattle.text.specs.Strings.{stands};
+ghost use Rattle.table.specs.Words.{key_spelled};
+ghost use Rattle.table.specs.Levels.{level_code, part, knows, known, limit, allows, absent_weight};
 
 use crate::exception::Exception;
 use crate::keys::Key;
 use crate::limits::{
     MAX_ACTIONS, MAX_ATTRIBUTES, MAX_PIXEL_FORMATS, MAX_SOURCES, MAX_STREAMS, MAX_VALUES,
 };
+use names::Named;
 
 #[derive(Clone, Copy, PartialEq, Eq, Debug)]
 pub enum Level {
@@ -58,6 +61,13 @@ impl Level {
             Key::Value => self == Level::Value,
             _ => false,
         }
+    }
+
+    // The member that a name spells, if it is the name of an array or one that this level knows.
+    pub(crate) fn known(self, name: &[u8]) -> Option<Key>
+        ensures { result ≡ known self (key_spelled (stands name.now)) }
+    {
+        Key::spelled(name).filter(|key| key.is_array() || self.knows(*key))
     }
 
     // How many objects of this level an array may have.

@@ -22,7 +22,8 @@ pub enum Verb {
     Other,
 }
 
-// What a source or pixel format object asks for by its word.
+// What a source or pixel format object asks for by its word: three outcomes, each with a meaning of its own,
+// which an Option in a Result would not name.
 #[derive(Clone, Copy, PartialEq, Eq)]
 pub enum Wanted<T> {
     Any,
@@ -33,7 +34,7 @@ pub enum Wanted<T> {
 
 #[derive(Clone, Copy)]
 pub enum Record {
-    // Nothing was written here.
+    // Nothing was written here: the caller lends a table that is full of these.
     Vacant,
     // The action's word, and how many entries its array of streams has, skipped ones counted.
     Action(Head, Option<Placed<Verb>>, u32),

@@ -1,12 +1,12 @@
-use Rattle.std.proofs.Common.{length}
-use Rattle.table.proofs.Judgement.{stands_so, text_first, form_stays}
+use Rattle.std.proofs.Common.{◌≡◌, MatchResult, rules}
+use Rattle.table.specs.declared.fault.TableFault.TheVariants.{Text}
+use Rattle.table.proofs.Judgement.{stands_so, form_or_text}
 use Rattle.table.proofs.read.first_fault.Goals as goal
 
-pub returns-in-Ok : goal.returns-in-Ok
-returns-in-Ok c old new p = form_stays c.args.text.now old new c.args.fault _ _ c.in-Form.is c.in-Ok.ensures.exact p
-
-pub returns-in-Err : goal.returns-in-Err
-returns-in-Err c old new p = text_first c.args.text.now (length new) _ c.in-Err.ensures.exact
+pub returns-in-Form : goal.returns-in-Form
+returns-in-Form c new p =
+    let m : MatchResult c.check.result (λ _. c.map_or_else.result ≡ c.args.fault) (λ y. c.map_or_else.result ≡ Text y) = search rules in
+    form_or_text c.args.text.now new c.args.fault _ _ _ _ c.in-Form.is c.check.ensures.exact m p
 
 pub returns-in_default : goal.returns-in_default
-returns-in_default c old new p = stands_so c.args.text.now old new c.args.fault c.in_default.not-Form p
+returns-in_default c new p = stands_so c.args.text.now new c.args.fault c.in_default.not-Form p
