@@ -1,13 +1,18 @@
-// A stream against a scanner, level by level. The labelled loops are left at the deciding trouble.
-ghost use Rattle.std.specs.Prelude.{◌≡◌, ◌+◌, ◌<◌, [], length, drop, is_some};
-ghost use Rattle.table.specs.Views.{values_in, attributes_in, attribute_of, formats_in, format_of, sources_in, source_of, stream_of};
+// A stream against a scanner, level by level.
+// Each function leaves the place record that it is lent as it was, and says so in a clause: no type ties the two values behind a &mut.
+ghost use Rattle.std.specs.Prelude.{◌≡◌, ◌∷◌, []};
+ghost use Rattle.table.specs.declared.level.Level.TheVariants.{Source, PixelFormat, Attribute};
+ghost use Rattle.table.specs.Views.{values_in, attributes_in, formats_in, sources_in, stream_of};
+ghost use Rattle.scanner.specs.declared.plan.Item.{Item};
 ghost use Rattle.negotiation.specs.declared.inspect.Choice.TheVariants.{Closed};
-ghost use Rattle.negotiation.specs.Words.{value_meant, point_meant, format_meant, source_meant};
+ghost use Rattle.negotiation.specs.Words.{meant_by, value_meant, point_meant, format_meant, source_meant};
 ghost use Rattle.negotiation.specs.Choices.{chosen, ChosenOnce};
-ghost use Rattle.negotiation.specs.Troubles.{choice_troubles, attribute_here, attribute_troubles, attributes_troubles, format_here, format_troubles, formats_troubles, source_here, source_troubles, sources_troubles, stream_here, stream_troubles};
-ghost use Rattle.negotiation.specs.Plans.{attribute_items, attributes_items, or_else, home_pair, default_items, format_items, formats_items, source_items, sources_items, stream_items};
+ghost use Rattle.negotiation.specs.Troubles.{choice_troubles, attributes_troubles, formats_troubles, sources_troubles, stream_troubles};
+ghost use Rattle.negotiation.specs.Parts.{source_role, format_role, attribute_role, sources_listed, formats_listed, attributes_listed, sources_troubles_append, sources_items_append, formats_troubles_append, formats_items_append, attributes_troubles_append, attributes_items_append};
+ghost use Rattle.negotiation.specs.Plans.{line_of, attributes_items, or_else, home_pair, default_items, formats_items, sources_items, stream_items};
 ghost use Rattle.negotiation.specs.Tellings.{held, Noted, Went};
 
+use crate::parts::{Object, Parts, Role, walk};
 use crate::plan::Plan;
 use crate::trouble::{Trouble, in_force, note};
 use names::{Attribute, PixelFormat, Source, Value};
@@ -15,7 +20,7 @@ use scanner::{Item, Point, Scanner};
 use table::{Exception, Head, Inside, Level, Place, Record, Wanted};
 use text::Placed;
 
-// What comes of the values of an attribute.
+// What comes of the values of an attribute. Option and Result have no names for the three outcomes that the law of one choice tells apart.
 #[derive(Clone, Copy)]
 pub enum Choice {
     // There are none.
@@ -25,40 +30,16 @@ pub enum Choice {
     Closed(Head),
 }
 
-// The records after the one at i.
-pub(crate) fn after(records: &[Record], i: usize) -> &[Record]
-    requires { i < length records.now }
-    ensures { result.now ≡ drop (i + 1) records.now }
-{
-    &records[i + 1..]
-}
-
 // The value, if it is offered.
 fn offered_value<S: Scanner>(scanner: &S, point: Point, value: Option<Value>) -> Option<Value>
     ensures { result ≡ value_meant (S.catalogue scanner.now) point value }
 {
-    match value {
-        Some(v) => if scanner.offers_value(point, v) {
-            Some(v)
-        } else {
-            None
-        },
-        None => None,
-    }
-}
-
-// Whether a value that is not offered closes the list: it has an exception of its own.
-fn closes(head: Head) -> bool
-    ensures { result ≡ is_some head.exception }
-{
-    match head.exception {
-        Some(_) => true,
-        None => false,
-    }
+    value.filter(|v| scanner.offers_value(point, *v))
 }
 
 // Values are tried in order, and the first offered one is taken.
 // A value that is not offered and has an exception of its own closes the list.
+#[tactic(auto, using(crate::proofs::Choosing::chosen_once))]
 fn choose<S: Scanner>(scanner: &S, point: Point, records: &[Record]) -> Choice
     ensures value { result ≡ chosen (S.catalogue scanner.now) point (values_in records.now) }
     ensures law { ChosenOnce (S.catalogue scanner.now) point (values_in records.now) }
@@ -72,7 +53,7 @@ fn choose<S: Scanner>(scanner: &S, point: Point, records: &[Record]) -> Choice
             return Choice::Taken(v);
         }
         choice = Choice::Closed(head);
-        if closes(head) {
+        if head.exception.is_some() {
             break 'values;
         }
     }
@@ -84,349 +65,224 @@ fn untaken(place: &mut Place, parent: Exception, head: Head) -> Result<(), Troub
     ensures place { place.new ≡ place.old }
     ensures noted { Noted (choice_troubles place.old parent (Closed head)) result }
 {
-    let outer = place.enter(Level::Value, head.index);
-    let inside = Inside {
-        place,
-        level: Level::Value,
-        outer,
-    };
+    let inside = Inside::enter(place, Level::Value, head.index);
     note(inside.place, head, in_force(head.exception, parent), true)
 }
 
-// The point of an attribute, if it is offered at its pair.
-fn offered_point<S: Scanner>(
-    scanner: &S,
+// What a word means: no word, and the word for any, mean the home.
+fn meant_by<T: Copy>(word: Option<Placed<Wanted<T>>>, home: T) -> Option<T>
+    ensures { result ≡ meant_by home word }
+{
+    match word.map_or(Wanted::Any, |placed| placed.value) {
+        Wanted::Any => Some(home),
+        Wanted::Named(named) => Some(named),
+        Wanted::Unknown => None,
+    }
+}
+
+// The attributes of a pair.
+#[derive(Drop)]
+struct Attributes<'a, S> {
+    scanner: &'a S,
     source: Source,
     format: PixelFormat,
-    attribute: Option<Attribute>,
-) -> Option<Point>
-    ensures { result ≡ point_meant (S.catalogue scanner.now) source format attribute }
-{
-    match attribute {
-        Some(attribute) => {
-            let point = Point {
-                source,
-                format,
-                attribute,
-            };
-            if scanner.offers_attribute(point) {
-                Some(point)
-            } else {
-                None
+}
+
+impl<S: Scanner> Parts for Attributes<'_, S> {
+    type Word = Placed<Option<Attribute>>;
+
+    type Named = Point;
+
+    ghost level = { Attribute };
+
+    ghost role = { attribute_role };
+
+    ghost meant = { λ it w. point_meant (S.catalogue it.scanner.now) it.source it.format w.value };
+
+    ghost inside_troubles = { λ it rs x p e. choice_troubles p e (chosen (S.catalogue it.scanner.now) x (values_in rs)) };
+
+    ghost inside_items = { λ it rs x. line_of x (chosen (S.catalogue it.scanner.now) x (values_in rs)) };
+
+    ghost troubles = { λ it p e rs. attributes_troubles (S.catalogue it.scanner.now) it.source it.format p e (attributes_in rs) };
+
+    ghost items = { λ it rs. attributes_items (S.catalogue it.scanner.now) it.source it.format (attributes_in rs) };
+
+    ghost troubles_listed = { λ it p e. attributes_listed (attributes_troubles_append (S.catalogue it.scanner.now) it.source it.format p e) };
+
+    ghost items_listed = { λ it. attributes_listed (attributes_items_append (S.catalogue it.scanner.now) it.source it.format) };
+
+    fn level() -> Level {
+        Level::Attribute
+    }
+
+    fn role(next: Record) -> Role<Placed<Option<Attribute>>> {
+        match next {
+            Record::Attribute(head, word) => Role::Part(head, word),
+            Record::Value(_, _) => Role::Deeper,
+            _ => Role::Outside,
+        }
+    }
+
+    fn meant(&self, word: Placed<Option<Attribute>>) -> Option<Point> {
+        let point = Point {
+            source: self.source,
+            format: self.format,
+            attribute: word.value?,
+        };
+        self.scanner.offers_attribute(point).then_some(point)
+    }
+
+    fn inside(
+        &self,
+        place: &mut Place,
+        plan: &mut Plan,
+        force: Exception,
+        named: Point,
+        records: &[Record],
+    ) -> Result<(), Trouble> {
+        match choose(self.scanner, named, records) {
+            Choice::Unset => Ok(()),
+            Choice::Taken(value) => {
+                plan.push(Item::Line(named, value));
+                Ok(())
             }
-        }
-        None => None,
-    }
-}
-
-fn attribute_here<S: Scanner>(
-    scanner: &S,
-    place: &mut Place,
-    plan: &mut Plan,
-    source: Source,
-    format: PixelFormat,
-    force: Exception,
-    head: Head,
-    word: Placed<Option<Attribute>>,
-    values: &[Record],
-) -> Result<(), Trouble>
-    ensures place { place.new ≡ place.old }
-    ensures went { Went (attribute_here (S.catalogue scanner.now) source format place.old force (attribute_of head word values.now)) (attribute_items (S.catalogue scanner.now) source format (attribute_of head word values.now)) (held plan.old) (held plan.new) result }
-{
-    note(place, head, force, head.unknown)?;
-    let Some(point) = offered_point(scanner, source, format, word.value) else {
-        return note(place, head, force, true);
-    };
-    match choose(scanner, point, values) {
-        Choice::Unset => Ok(()),
-        Choice::Taken(value) => {
-            plan.push(Item::Line(point, value));
-            Ok(())
-        }
-        Choice::Closed(value) => untaken(place, force, value),
-    }
-}
-
-fn attribute<S: Scanner>(
-    scanner: &S,
-    place: &mut Place,
-    plan: &mut Plan,
-    source: Source,
-    format: PixelFormat,
-    parent: Exception,
-    head: Head,
-    word: Placed<Option<Attribute>>,
-    values: &[Record],
-) -> Result<(), Trouble>
-    ensures place { place.new ≡ place.old }
-    ensures went { Went (attribute_troubles (S.catalogue scanner.now) source format place.old parent (attribute_of head word values.now)) (attribute_items (S.catalogue scanner.now) source format (attribute_of head word values.now)) (held plan.old) (held plan.new) result }
-{
-    let outer = place.enter(Level::Attribute, head.index);
-    let inside = Inside {
-        place,
-        level: Level::Attribute,
-        outer,
-    };
-    let force = in_force(head.exception, parent);
-    attribute_here(
-        scanner,
-        inside.place,
-        plan,
-        source,
-        format,
-        force,
-        head,
-        word,
-        values,
-    )
-}
-
-fn attributes<S: Scanner>(
-    scanner: &S,
-    place: &mut Place,
-    plan: &mut Plan,
-    source: Source,
-    format: PixelFormat,
-    parent: Exception,
-    records: &[Record],
-) -> Result<(), Trouble>
-    ensures place { place.new ≡ place.old }
-    ensures went { Went (attributes_troubles (S.catalogue scanner.now) source format place.old parent (attributes_in records.now)) (attributes_items (S.catalogue scanner.now) source format (attributes_in records.now)) (held plan.old) (held plan.new) result }
-{
-    'attributes: for (i, record) in records.iter().enumerate() {
-        match *record {
-            Record::Value(_, _) => continue 'attributes,
-            Record::Attribute(head, word) => {
-                attribute(
-                    scanner,
-                    place,
-                    plan,
-                    source,
-                    format,
-                    parent,
-                    head,
-                    word,
-                    after(records, i),
-                )?;
-            }
-            _ => break 'attributes,
+            Choice::Closed(head) => untaken(place, force, head),
         }
     }
-    Ok(())
 }
 
-// The format that an object asks for, if it is offered for its source.
-fn offered_format<S: Scanner>(
-    scanner: &S,
+// The formats of a source.
+#[derive(Drop)]
+struct Formats<'a, S> {
+    scanner: &'a S,
     source: Source,
-    word: Option<Placed<Wanted<PixelFormat>>>,
-) -> Option<PixelFormat>
-    ensures { result ≡ format_meant (S.catalogue scanner.now) source word }
-{
-    let format = match word {
-        None => scanner.home_format(source),
-        Some(placed) => match placed.value {
-            Wanted::Any => scanner.home_format(source),
-            Wanted::Named(format) => format,
-            Wanted::Unknown => return None,
-        },
-    };
-    if scanner.offers_format(source, format) {
-        Some(format)
-    } else {
-        None
+}
+
+impl<S: Scanner> Parts for Formats<'_, S> {
+    type Word = Option<Placed<Wanted<PixelFormat>>>;
+
+    type Named = PixelFormat;
+
+    ghost level = { PixelFormat };
+
+    ghost role = { format_role };
+
+    ghost meant = { λ it w. format_meant (S.catalogue it.scanner.now) it.source w };
+
+    ghost inside_troubles = { λ it rs x p e. attributes_troubles (S.catalogue it.scanner.now) it.source x p e (attributes_in rs) };
+
+    ghost inside_items = { λ it rs x. Item.Pair it.source x ∷ attributes_items (S.catalogue it.scanner.now) it.source x (attributes_in rs) };
+
+    ghost troubles = { λ it p e rs. formats_troubles (S.catalogue it.scanner.now) it.source p e (formats_in rs) };
+
+    ghost items = { λ it rs. formats_items (S.catalogue it.scanner.now) it.source (formats_in rs) };
+
+    ghost troubles_listed = { λ it p e. formats_listed (formats_troubles_append (S.catalogue it.scanner.now) it.source p e) };
+
+    ghost items_listed = { λ it. formats_listed (formats_items_append (S.catalogue it.scanner.now) it.source) };
+
+    fn level() -> Level {
+        Level::PixelFormat
     }
-}
 
-fn format_here<S: Scanner>(
-    scanner: &S,
-    place: &mut Place,
-    plan: &mut Plan,
-    source: Source,
-    force: Exception,
-    head: Head,
-    word: Option<Placed<Wanted<PixelFormat>>>,
-    records: &[Record],
-) -> Result<(), Trouble>
-    ensures place { place.new ≡ place.old }
-    ensures went { Went (format_here (S.catalogue scanner.now) source place.old force (format_of head word records.now)) (format_items (S.catalogue scanner.now) source (format_of head word records.now)) (held plan.old) (held plan.new) result }
-{
-    note(place, head, force, head.unknown)?;
-    let Some(format) = offered_format(scanner, source, word) else {
-        return note(place, head, force, true);
-    };
-    plan.push(Item::Pair(source, format));
-    attributes(scanner, place, plan, source, format, force, records)
-}
-
-fn format<S: Scanner>(
-    scanner: &S,
-    place: &mut Place,
-    plan: &mut Plan,
-    source: Source,
-    parent: Exception,
-    head: Head,
-    word: Option<Placed<Wanted<PixelFormat>>>,
-    records: &[Record],
-) -> Result<(), Trouble>
-    ensures place { place.new ≡ place.old }
-    ensures went { Went (format_troubles (S.catalogue scanner.now) source place.old parent (format_of head word records.now)) (format_items (S.catalogue scanner.now) source (format_of head word records.now)) (held plan.old) (held plan.new) result }
-{
-    let outer = place.enter(Level::PixelFormat, head.index);
-    let inside = Inside {
-        place,
-        level: Level::PixelFormat,
-        outer,
-    };
-    let force = in_force(head.exception, parent);
-    format_here(
-        scanner,
-        inside.place,
-        plan,
-        source,
-        force,
-        head,
-        word,
-        records,
-    )
-}
-
-fn formats<S: Scanner>(
-    scanner: &S,
-    place: &mut Place,
-    plan: &mut Plan,
-    source: Source,
-    parent: Exception,
-    records: &[Record],
-) -> Result<(), Trouble>
-    ensures place { place.new ≡ place.old }
-    ensures went { Went (formats_troubles (S.catalogue scanner.now) source place.old parent (formats_in records.now)) (formats_items (S.catalogue scanner.now) source (formats_in records.now)) (held plan.old) (held plan.new) result }
-{
-    'formats: for (i, record) in records.iter().enumerate() {
-        match *record {
-            Record::Value(_, _) => continue 'formats,
-            Record::Attribute(_, _) => continue 'formats,
-            Record::PixelFormat(head, word) => {
-                format(
-                    scanner,
-                    place,
-                    plan,
-                    source,
-                    parent,
-                    head,
-                    word,
-                    after(records, i),
-                )?;
-            }
-            _ => break 'formats,
+    fn role(next: Record) -> Role<Option<Placed<Wanted<PixelFormat>>>> {
+        match next {
+            Record::PixelFormat(head, word) => Role::Part(head, word),
+            Record::Attribute(_, _) | Record::Value(_, _) => Role::Deeper,
+            _ => Role::Outside,
         }
     }
-    Ok(())
-}
 
-// The formats of a source, or its home format where none is left.
-fn formats_or_home<S: Scanner>(
-    scanner: &S,
-    place: &mut Place,
-    plan: &mut Plan,
-    source: Source,
-    parent: Exception,
-    records: &[Record],
-) -> Result<(), Trouble>
-    ensures place { place.new ≡ place.old }
-    ensures went { Went (formats_troubles (S.catalogue scanner.now) source place.old parent (formats_in records.now)) (or_else (home_pair (S.catalogue scanner.now) source) (formats_items (S.catalogue scanner.now) source (formats_in records.now))) (held plan.old) (held plan.new) result }
-{
-    let before = plan.len();
-    formats(scanner, place, plan, source, parent, records)?;
-    if plan.len() == before {
-        plan.push(Item::Pair(source, scanner.home_format(source)));
+    fn meant(&self, word: Option<Placed<Wanted<PixelFormat>>>) -> Option<PixelFormat> {
+        let Formats { scanner, source } = *self;
+        meant_by(word, scanner.home_format(source)).filter(|f| scanner.offers_format(source, *f))
     }
-    Ok(())
-}
 
-// The source that an object asks for, if it is offered.
-fn offered_source<S: Scanner>(scanner: &S, word: Option<Placed<Wanted<Source>>>) -> Option<Source>
-    ensures { result ≡ source_meant (S.catalogue scanner.now) word }
-{
-    let source = match word {
-        None => scanner.home_source(),
-        Some(placed) => match placed.value {
-            Wanted::Any => scanner.home_source(),
-            Wanted::Named(source) => source,
-            Wanted::Unknown => return None,
-        },
-    };
-    if scanner.offers_source(source) {
-        Some(source)
-    } else {
-        None
+    fn inside(
+        &self,
+        place: &mut Place,
+        plan: &mut Plan,
+        force: Exception,
+        named: PixelFormat,
+        records: &[Record],
+    ) -> Result<(), Trouble> {
+        plan.push(Item::Pair(self.source, named));
+        let attributes = Attributes {
+            scanner: self.scanner,
+            source: self.source,
+            format: named,
+        };
+        walk(&attributes, place, plan, force, records)
     }
 }
 
-fn source_here<S: Scanner>(
-    scanner: &S,
-    place: &mut Place,
-    plan: &mut Plan,
-    force: Exception,
-    head: Head,
-    word: Option<Placed<Wanted<Source>>>,
-    records: &[Record],
-) -> Result<(), Trouble>
-    ensures place { place.new ≡ place.old }
-    ensures went { Went (source_here (S.catalogue scanner.now) place.old force (source_of head word records.now)) (source_items (S.catalogue scanner.now) (source_of head word records.now)) (held plan.old) (held plan.new) result }
-{
-    note(place, head, force, head.unknown)?;
-    let Some(source) = offered_source(scanner, word) else {
-        return note(place, head, force, true);
-    };
-    plan.push(Item::Source(source));
-    formats_or_home(scanner, place, plan, source, force, records)
+// The sources of a stream.
+#[derive(Drop)]
+struct Sources<'a, S> {
+    scanner: &'a S,
 }
 
-fn source<S: Scanner>(
-    scanner: &S,
-    place: &mut Place,
-    plan: &mut Plan,
-    parent: Exception,
-    head: Head,
-    word: Option<Placed<Wanted<Source>>>,
-    records: &[Record],
-) -> Result<(), Trouble>
-    ensures place { place.new ≡ place.old }
-    ensures went { Went (source_troubles (S.catalogue scanner.now) place.old parent (source_of head word records.now)) (source_items (S.catalogue scanner.now) (source_of head word records.now)) (held plan.old) (held plan.new) result }
-{
-    let outer = place.enter(Level::Source, head.index);
-    let inside = Inside {
-        place,
-        level: Level::Source,
-        outer,
-    };
-    let force = in_force(head.exception, parent);
-    source_here(scanner, inside.place, plan, force, head, word, records)
-}
+impl<S: Scanner> Parts for Sources<'_, S> {
+    type Word = Option<Placed<Wanted<Source>>>;
 
-fn sources<S: Scanner>(
-    scanner: &S,
-    place: &mut Place,
-    plan: &mut Plan,
-    parent: Exception,
-    records: &[Record],
-) -> Result<(), Trouble>
-    ensures place { place.new ≡ place.old }
-    ensures went { Went (sources_troubles (S.catalogue scanner.now) place.old parent (sources_in records.now)) (sources_items (S.catalogue scanner.now) (sources_in records.now)) (held plan.old) (held plan.new) result }
-{
-    'sources: for (i, record) in records.iter().enumerate() {
-        match *record {
-            Record::Value(_, _) => continue 'sources,
-            Record::Attribute(_, _) => continue 'sources,
-            Record::PixelFormat(_, _) => continue 'sources,
-            Record::Source(head, word) => {
-                source(scanner, place, plan, parent, head, word, after(records, i))?;
-            }
-            _ => break 'sources,
+    type Named = Source;
+
+    ghost level = { Source };
+
+    ghost role = { source_role };
+
+    ghost meant = { λ it w. source_meant (S.catalogue it.scanner.now) w };
+
+    ghost inside_troubles = { λ it rs x p e. formats_troubles (S.catalogue it.scanner.now) x p e (formats_in rs) };
+
+    ghost inside_items = { λ it rs x. Item.Source x ∷ or_else (home_pair (S.catalogue it.scanner.now) x) (formats_items (S.catalogue it.scanner.now) x (formats_in rs)) };
+
+    ghost troubles = { λ it p e rs. sources_troubles (S.catalogue it.scanner.now) p e (sources_in rs) };
+
+    ghost items = { λ it rs. sources_items (S.catalogue it.scanner.now) (sources_in rs) };
+
+    ghost troubles_listed = { λ it p e. sources_listed (sources_troubles_append (S.catalogue it.scanner.now) p e) };
+
+    ghost items_listed = { λ it. sources_listed (sources_items_append (S.catalogue it.scanner.now)) };
+
+    fn level() -> Level {
+        Level::Source
+    }
+
+    fn role(next: Record) -> Role<Option<Placed<Wanted<Source>>>> {
+        match next {
+            Record::Source(head, word) => Role::Part(head, word),
+            Record::PixelFormat(_, _) | Record::Attribute(_, _) | Record::Value(_, _) =>
+                Role::Deeper,
+            _ => Role::Outside,
         }
     }
-    Ok(())
+
+    fn meant(&self, word: Option<Placed<Wanted<Source>>>) -> Option<Source> {
+        meant_by(word, self.scanner.home_source()).filter(|s| self.scanner.offers_source(*s))
+    }
+
+    // The formats, or the home format where none is left.
+    fn inside(
+        &self,
+        place: &mut Place,
+        plan: &mut Plan,
+        force: Exception,
+        named: Source,
+        records: &[Record],
+    ) -> Result<(), Trouble> {
+        plan.push(Item::Source(named));
+        let formats = Formats {
+            scanner: self.scanner,
+            source: named,
+        };
+        let before = plan.items().len();
+        walk(&formats, place, plan, force, records)?;
+        if plan.items().len() == before {
+            plan.push(Item::Pair(named, self.scanner.home_format(named)));
+        }
+        Ok(())
+    }
 }
 
 // The plan of the default stream: the home source with its home format.
@@ -439,43 +295,29 @@ pub fn default_plan<S: Scanner>(scanner: &S, plan: &mut Plan)
     plan.push(Item::Pair(home, scanner.home_format(home)));
 }
 
-fn stream_here<S: Scanner>(
-    scanner: &S,
-    place: &mut Place,
-    plan: &mut Plan,
-    force: Exception,
-    head: Head,
-    records: &[Record],
-) -> Result<(), Trouble>
-    ensures place { place.new ≡ place.old }
-    ensures went { Went (stream_here (S.catalogue scanner.now) place.old force (stream_of head records.now)) (stream_items (S.catalogue scanner.now) (stream_of head records.now)) [] (held plan.new) result }
-{
-    note(place, head, force, head.unknown)?;
-    plan.clear();
-    sources(scanner, place, plan, force, records)?;
-    if plan.len() == 0 {
-        default_plan(scanner, plan);
-    }
-    Ok(())
-}
-
 // Goes through a stream, which fits where no trouble in it decides; the plan is then the stream's.
 pub(crate) fn stream<S: Scanner>(
     scanner: &S,
     place: &mut Place,
     plan: &mut Plan,
     force: Exception,
-    head: Head,
-    records: &[Record],
+    stream: Object<'_, ()>,
 ) -> Result<(), Trouble>
     ensures place { place.new ≡ place.old }
-    ensures went { Went (stream_troubles (S.catalogue scanner.now) place.old (record { stream = (stream_of head records.now); force = force })) (stream_items (S.catalogue scanner.now) (stream_of head records.now)) [] (held plan.new) result }
+    ensures went { Went (stream_troubles (S.catalogue scanner.now) place.old (record { stream = (stream_of stream.entry.head stream.entry.records.now); force = force })) (stream_items (S.catalogue scanner.now) (stream_of stream.entry.head stream.entry.records.now)) [] (held plan.new) result }
 {
-    let outer = place.enter(Level::Stream, head.index);
-    let inside = Inside {
-        place,
-        level: Level::Stream,
-        outer,
-    };
-    stream_here(scanner, inside.place, plan, force, head, records)
+    let inside = Inside::enter(place, Level::Stream, stream.head.index);
+    note(inside.place, stream.head, force, stream.head.unknown)?;
+    plan.clear();
+    walk(
+        &Sources { scanner },
+        inside.place,
+        plan,
+        force,
+        stream.records,
+    )?;
+    if plan.items().is_empty() {
+        default_plan(scanner, plan);
+    }
+    Ok(())
 }

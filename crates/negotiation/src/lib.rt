@@ -2,6 +2,7 @@
 #![tactic(auto)]
 
 pub mod inspect;
+mod parts;
 pub mod plan;
 pub mod settle;
 pub mod trouble;
