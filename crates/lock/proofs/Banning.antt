@@ -2,8 +2,8 @@
 use Rattle.std.proofs.Common.{◌≡◌, Bool, true, false, cond, not, ◌&&◌, ◌||◌, leb, List, [], ◌∷◌, ◌++◌, length, ℤ, pos, Some, Result, sym, refl, ap, ◌∙◌, subst}
 use Rattle.std.proofs.lemmas.List.{length_push}
 use Rattle.std.proofs.lemmas.Bool.{and_right}
+use Rattle.std.proofs.Math.Bool.{or-false}
 use Rattle.names.specs.declared.kinds.Attribute.{Attribute}
-use Rattle.names.specs.declared.kinds.Word.{Word}
 use Rattle.names.specs.declared.kinds.Value.{Value}
 use Rattle.names.specs.declared.kinds.Value.TheVariants as values
 use Rattle.names.specs.Same.{same_attribute}
@@ -11,20 +11,16 @@ use Rattle.lock.specs.declared.ban.Ban.{Ban}
 use Rattle.scanners.specs.declared.fault.FillFault.{FillFault}
 use Rattle.scanners.specs.declared.range.Range.{Range}
 use Rattle.scanners.specs.declared.values.Values.TheVariants as kinds
-use Rattle.lock.specs.Bans.{Bans, Forbidden, forbids, forbidden, most_bans, room_for, a_word, a_span, locked, either, PileBansTheUnion, PileInAnyOrder}
+use Rattle.lock.specs.Bans.{Bans, Forbidden, forbids, forbidden, most_bans, room_for, a_span, locked, either, PileBansTheUnion, PileInAnyOrder}
 use Rattle.scanners.specs.Faults.{first_fault, told}
 use Rattle.scanners.specs.Ranges.{in_range}
 use Rattle.scanners.proofs.Searches.{any_push}
-
-or_false : (b : Bool) → b ≡ (b || false)
-or_false true = refl
-or_false false = refl
 
 -- a ban that the numbers make: it is added where there is room
 add : (full : Bool) (call : Forbidden) (old : List Ban) (b : Ban) → leb most_bans (length old) ≡ full → ((a : Attribute) (v : Value) → forbids b a v ≡ call a v)
     → Bans (Some call) old (cond full old (old ++ b ∷ [])) (told (first_fault false false false full))
 add true call old b e is =
-    record { says = sym (ap (λ t. told (first_fault false false false t)) e); count = refl; after = λ a v. or_false (forbidden old a v) }
+    record { says = sym (ap (λ t. told (first_fault false false false t)) e); count = refl; after = λ a v. sym (or-false (forbidden old a v)) }
 add false call old b e is =
     record {
       says = sym (ap (λ t. told (first_fault false false false t)) e);
@@ -42,11 +38,7 @@ added call old new b r is answer list =
     let one = add full call old b refl is in
     subst (λ x. Bans (Some call) old x r) (sym list) (subst (λ x. Bans (Some call) old (cond full old (old ++ b ∷ [])) x) (sym answer) one)
 
--- what the ban of a word, and of a span, forbids
-pub word_is : (a : Attribute) (w : Word) (x : Attribute) (v : Value) → forbids (record { attribute = a; values = kinds.Word w }) x v ≡ a_word a w x v
-word_is a w x (values.Word v) = refl
-word_is a w x (values.Number n) = and_right (same_attribute a x) false refl
-
+-- what the ban of a span forbids
 pub span_is : (a : Attribute) (r : Range) (low high : ℤ) → r.low ≡ low → r.high ≡ high → pos r.step ≡ pos 1
     → (x : Attribute) (v : Value) → forbids (record { attribute = a; values = kinds.Range r }) x v ≡ a_span a low high x v
 span_is a r low high l h s x (values.Word v) = and_right (same_attribute a x) false refl

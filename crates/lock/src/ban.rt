@@ -10,7 +10,7 @@ pub struct Ban {
     pub values: Values,
 }
 
-// The bans that forbid a value of an attribute.
+// The bans that forbid a value of an attribute: a struct, since the one search takes its test under a trait.
 #[derive(Clone, Copy)]
 pub struct Forbidding {
     pub attribute: Attribute,

@@ -5,7 +5,7 @@ ghost use Rattle.lock.specs.Bans.{Bans, forbidden, locked, most_bans, word_ban, 
 ghost use Rattle.std.proofs.Common.{rules};
 
 use crate::ban::{Ban, Forbidding};
-use names::{Attribute, PixelFormat, Source, Value, Word};
+use names::{Attribute, Named, PixelFormat, Source, Value, Word};
 use scanner::{Point, Scanner};
 use scanners::{FillFault, Range, Values, any};
 use std::alloc::Global;
@@ -15,6 +15,7 @@ const MOST_BANS: usize = 16;
 #[derive(Drop)]
 pub struct Lock<S: Scanner> {
     below: S,
+    // Its memory is taken when the lock is made.
     bans: Vec<Ban>,
     ghost few: { vec_len bans ≤ most_bans },
     ghost room: { most_bans ≤ vec_capacity bans },
@@ -25,10 +26,11 @@ impl<S: Scanner> Lock<S> {
     pub fn new(heap: Global, below: S) -> Result<Lock<S>, S>
         ensures { MatchResult result (λ x. (x.below ≡ below) × (x.bans.items ≡ [])) (λ back. back ≡ below) }
     {
-        match Vec::with_capacity(heap, MOST_BANS) {
-            Ok(bans) => Ok(Lock { below, bans }),
-            Err(_) => Err(below),
-        }
+        // No `map_err` with `?`: its closure would take the scanner, which the lock needs.
+        let Ok(bans) = Vec::with_capacity(heap, MOST_BANS) else {
+            return Err(below);
+        };
+        Ok(Lock { below, bans })
     }
 
     // Takes the lock off.
@@ -40,17 +42,14 @@ impl<S: Scanner> Lock<S> {
         below
     }
 
-    // Bans a word of an attribute, both by number.
+    // Bans a word of an attribute, both by number, as a setup tool sends them here and in `ban_span`.
+    // That the scanner below stays is said at each call: it ties a lock before and after, which no invariant can.
     pub fn ban_word(&mut self, attribute: u32, word: u32) -> Result<(), FillFault>
         ensures below { self.new.below ≡ self.old.below }
         ensures bans { Bans (word_ban (attribute_numbered attribute) (word_numbered word)) self.old.bans.items self.new.bans.items result }
     {
-        let Some(attribute) = Attribute::from_number(attribute) else {
-            return Err(FillFault::BadNumber);
-        };
-        let Some(word) = Word::from_number(word) else {
-            return Err(FillFault::BadNumber);
-        };
+        let attribute = Attribute::from_number(attribute).ok_or(FillFault::BadNumber)?;
+        let word = Word::from_number(word).ok_or(FillFault::BadNumber)?;
         self.ban(Ban {
             attribute,
             values: Values::Word(word),
@@ -62,12 +61,8 @@ impl<S: Scanner> Lock<S> {
         ensures below { self.new.below ≡ self.old.below }
         ensures bans { Bans (span_ban (attribute_numbered attribute) low high) self.old.bans.items self.new.bans.items result }
     {
-        let Some(attribute) = Attribute::from_number(attribute) else {
-            return Err(FillFault::BadNumber);
-        };
-        let Some(range) = Range::new(low, high, 1) else {
-            return Err(FillFault::BadNumber);
-        };
+        let attribute = Attribute::from_number(attribute).ok_or(FillFault::BadNumber)?;
+        let range = Range::new(low, high, 1).ok_or(FillFault::BadNumber)?;
         self.ban(Ban {
             attribute,
             values: Values::Range(range),

@@ -2,7 +2,7 @@
 #![tactic(auto)]
 
 use lock::{Lock, swapped};
-use names::{Attribute, PixelFormat, Source, Value, Word};
+use names::{Attribute, Named, PixelFormat, Source, Value, Word};
 use scanner::{Item, Point, Scanner, put_in};
 use scanners::{FillFault, Flatbed};
 use std::io;
@@ -38,6 +38,15 @@ const FEEDER: Point = Point {
     attribute: Attribute::Resolution,
 };
 
+// Whether a value is offered at a point, as it is printed.
+fn offered<S: Scanner>(scanner: &S, point: Point, value: Value) -> &'static str {
+    if scanner.offers_value(point, value) {
+        "yes"
+    } else {
+        "no"
+    }
+}
+
 // Which of these numbers are offered at a point.
 fn offered_numbers<S: Scanner>(
     rt: &HostRuntime,
@@ -46,11 +55,7 @@ fn offered_numbers<S: Scanner>(
     numbers: &[i32],
 ) -> io::Result<()> {
     for number in numbers {
-        let answer = if scanner.offers_value(point, Value::Number(*number)) {
-            "yes"
-        } else {
-            "no"
-        };
+        let answer = offered(scanner, point, Value::Number(*number));
         println!(rt; "  {number} {answer}")?;
     }
     Ok(())
@@ -65,11 +70,7 @@ fn offered_words<S: Scanner>(
 ) -> io::Result<()> {
     for number in words {
         if let Some(word) = Word::from_number(*number) {
-            let answer = if scanner.offers_value(point, Value::Word(word)) {
-                "yes"
-            } else {
-                "no"
-            };
+            let answer = offered(scanner, point, Value::Word(word));
             println!(rt; "  word {number} {answer}")?;
         }
     }
@@ -287,8 +288,7 @@ fn ban_trial(rt: &HostRuntime, lock: &mut Lock<Flatbed>) -> io::Result<()> {
 }
 
 // A pile of two locks offers the same in either order.
-fn pile_trial(rt: &HostRuntime, pile: Lock<Lock<Flatbed>>) -> io::Result<()> {
-    let mut pile = pile;
+fn pile_trial(rt: &HostRuntime, mut pile: Lock<Lock<Flatbed>>) -> io::Result<()> {
     println!(rt; "pile of locks")?;
     told(rt, "250 to 500 above", pile.ban_span(31, 250, 500))?;
     offered_numbers(rt, &pile, COLOR, &[175, 200, 225, 300, 500, 525])?;

@@ -3,3 +3,4 @@ pub mod Flatbed
 pub mod Faults
 pub mod Ranges
 pub mod Values
+pub mod Lending

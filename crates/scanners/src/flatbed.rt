@@ -4,6 +4,9 @@ ghost use Rattle.names.specs.declared.kinds.Attribute.{Attribute};
 ghost use Rattle.names.specs.Same.{same_attribute};
 ghost use Rattle.scanner.specs.Meaning.{Agree, powered};
 ghost use Rattle.scanners.specs.Flatbed.{flatbed_catalogue, flatbed_state, settings_at, held_at, by_attribute, offered_resolution, offered_brightness, offered_compression};
+ghost use Rattle.scanners.specs.Lending.{LendsSettings};
+ghost use Rattle.std.specs.Borrow.{sem};
+ghost use Rattle.std.specs.Option.{option_copied, option_copied_mut};
 ghost use Rattle.std.proofs.Common.{rules};
 
 use names::{Attribute, PixelFormat, Source, Value, Word};
@@ -51,8 +54,7 @@ fn offered_resolution(value: Value) -> bool
     ensures { result ≡ offered_resolution value }
 {
     match value {
-        Value::Number(n) => n >= LOWEST_RESOLUTION
-            && n <= HIGHEST_RESOLUTION
+        Value::Number(n) => (LOWEST_RESOLUTION..=HIGHEST_RESOLUTION).contains(&n)
             && n % RESOLUTION_STEP == 0,
         Value::Word(_) => false,
     }
@@ -62,7 +64,7 @@ fn offered_brightness(value: Value) -> bool
     ensures { result ≡ offered_brightness value }
 {
     match value {
-        Value::Number(n) => n >= 0 && n <= HIGHEST_BRIGHTNESS,
+        Value::Number(n) => (0..=HIGHEST_BRIGHTNESS).contains(&n),
         Value::Word(word) => word == Word::Automatic,
     }
 }
@@ -70,24 +72,18 @@ fn offered_brightness(value: Value) -> bool
 fn offered_compression(value: Value) -> bool
     ensures { result ≡ offered_compression value }
 {
-    match value {
-        Value::Number(_) => false,
-        Value::Word(word) => word == Word::None || word == Word::Jpeg,
-    }
+    matches!(value, Value::Word(Word::None | Word::Jpeg))
 }
 
 impl Settings {
     fn at(&self, attribute: Attribute) -> Option<Value>
         ensures { result ≡ held_at (Some self.now) attribute }
     {
-        if attribute == Attribute::Resolution {
-            Some(self.resolution)
-        } else if attribute == Attribute::Brightness {
-            Some(self.brightness)
-        } else if attribute == Attribute::Compression {
-            Some(self.compression)
-        } else {
-            None
+        match attribute {
+            Attribute::Resolution => Some(self.resolution),
+            Attribute::Brightness => Some(self.brightness),
+            Attribute::Compression => Some(self.compression),
+            _ => None,
         }
     }
 
@@ -96,12 +92,11 @@ impl Settings {
         ensures enabled { self.new.enabled ≡ self.old.enabled }
         ensures held { (a : Attribute) → held_at (Some self.new) a ≡ (if same_attribute attribute a then by_attribute a (Some value) (Some value) (Some value) None else held_at (Some self.old) a) }
     {
-        if attribute == Attribute::Resolution {
-            self.resolution = value;
-        } else if attribute == Attribute::Brightness {
-            self.brightness = value;
-        } else if attribute == Attribute::Compression {
-            self.compression = value;
+        match attribute {
+            Attribute::Resolution => self.resolution = value,
+            Attribute::Brightness => self.brightness = value,
+            Attribute::Compression => self.compression = value,
+            _ => {}
         }
     }
 }
@@ -117,17 +112,26 @@ impl Flatbed {
         }
     }
 
-    fn settings(&self, source: Source, format: PixelFormat) -> Option<Settings>
-        ensures { result ≡ settings_at self.now source format }
+    // The settings of a pair, or none off the pairs.
+    fn settings(&self, source: Source, format: PixelFormat) -> Option<&Settings>
+        ensures { option_copied result ≡ settings_at self.now source format }
     {
-        if source != Source::FlatBed {
-            None
-        } else if format == PixelFormat::Gray8 {
-            Some(self.gray)
-        } else if format == PixelFormat::Rgb24 {
-            Some(self.color)
-        } else {
-            None
+        match (source, format) {
+            (Source::FlatBed, PixelFormat::Gray8) => Some(&self.gray),
+            (Source::FlatBed, PixelFormat::Rgb24) => Some(&self.color),
+            _ => None,
+        }
+    }
+
+    // The same, to be written: no function is generic over the two kinds of reference.
+    fn settings_mut(&mut self, source: Source, format: PixelFormat) -> Option<&mut Settings>
+        ensures value { option_copied_mut result ≡ settings_at self.old source format }
+        ensures* writes_back { sem 𝓛 (LendsSettings self.entry source format result) }
+    {
+        match (source, format) {
+            (Source::FlatBed, PixelFormat::Gray8) => Some(&mut self.gray),
+            (Source::FlatBed, PixelFormat::Rgb24) => Some(&mut self.color),
+            _ => None,
         }
     }
 }
@@ -146,26 +150,25 @@ impl Scanner for Flatbed {
     }
 
     fn offers_format(&self, source: Source, format: PixelFormat) -> bool {
-        source == Source::FlatBed && (format == PixelFormat::Gray8 || format == PixelFormat::Rgb24)
+        source == Source::FlatBed && matches!(format, PixelFormat::Gray8 | PixelFormat::Rgb24)
     }
 
     fn offers_attribute(&self, point: Point) -> bool {
         self.offers_format(point.source, point.format)
-            && (point.attribute == Attribute::Resolution
-                || point.attribute == Attribute::Brightness
-                || point.attribute == Attribute::Compression)
+            && matches!(
+                point.attribute,
+                Attribute::Resolution | Attribute::Brightness | Attribute::Compression
+            )
     }
 
     fn offers_value(&self, point: Point, value: Value) -> bool {
-        if !self.offers_format(point.source, point.format) {
-            false
-        } else if point.attribute == Attribute::Resolution {
-            offered_resolution(value)
-        } else if point.attribute == Attribute::Brightness {
-            offered_brightness(value)
-        } else {
-            point.attribute == Attribute::Compression && offered_compression(value)
-        }
+        self.offers_format(point.source, point.format)
+            && match point.attribute {
+                Attribute::Resolution => offered_resolution(value),
+                Attribute::Brightness => offered_brightness(value),
+                Attribute::Compression => offered_compression(value),
+                _ => false,
+            }
     }
 
     fn home_source(&self) -> Source {
@@ -177,33 +180,24 @@ impl Scanner for Flatbed {
     }
 
     fn enabled(&self, source: Source, format: PixelFormat) -> bool {
-        match self.settings(source, format) {
-            Some(settings) => settings.enabled,
-            None => false,
-        }
+        self.settings(source, format)
+            .is_some_and(|settings| settings.enabled)
     }
 
     fn current(&self, point: Point) -> Option<Value> {
-        match self.settings(point.source, point.format) {
-            Some(settings) => settings.at(point.attribute),
-            None => None,
-        }
+        self.settings(point.source, point.format)?
+            .at(point.attribute)
     }
 
     fn reset(&mut self) {
-        self.gray = POWER_ON;
-        self.color = POWER_ON;
+        *self = Flatbed::new();
     }
 
     fn enable(&mut self, source: Source, format: PixelFormat) -> bool {
-        if !self.offers_format(source, format) {
+        let Some(settings) = self.settings_mut(source, format) else {
             return false;
-        }
-        if format == PixelFormat::Gray8 {
-            self.gray.enabled = true;
-        } else {
-            self.color.enabled = true;
-        }
+        };
+        settings.enabled = true;
         true
     }
 
@@ -211,10 +205,8 @@ impl Scanner for Flatbed {
         if !self.offers_value(point, value) {
             return false;
         }
-        if point.format == PixelFormat::Gray8 {
-            self.gray.put(point.attribute, value);
-        } else {
-            self.color.put(point.attribute, value);
+        if let Some(settings) = self.settings_mut(point.source, point.format) {
+            settings.put(point.attribute, value);
         }
         true
     }

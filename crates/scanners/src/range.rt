@@ -16,6 +16,7 @@ impl Range {
     pub fn new(low: i32, high: i32, step: i32) -> Option<Range>
         ensures { MatchOption result (is_range low high step ≡ false) (λ x. (is_range low high step ≡ true) × (x.low ≡ low) × (x.high ≡ high) × (pos x.step ≡ step)) }
     {
+        // Not `then`: a closure would not have the test, on which the range's ghost fields rest.
         if low <= high && step >= 1 {
             Some(Range {
                 low,

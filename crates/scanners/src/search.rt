@@ -2,7 +2,7 @@
 ghost use Rattle.std.specs.Prelude.{◌≡◌, Bool};
 ghost use Rattle.scanners.specs.Search.{FirstOf, any_of};
 
-// A test that an entry meets or fails.
+// A test that an entry meets or fails. It is a trait, since a closure as the test would put a `requires` on the search.
 pub trait Test<T> {
     ghost holds: { Self → T → Bool };
 
@@ -14,12 +14,7 @@ pub trait Test<T> {
 pub fn first<T, P: Test<T>>(entries: &[T], test: &P) -> Option<usize>
     ensures { FirstOf (P.Test.holds test.now) entries.now result }
 {
-    for (i, entry) in entries.iter().enumerate() {
-        if test.meets(entry) {
-            return Some(i);
-        }
-    }
-    None
+    entries.iter().position(|entry| test.meets(entry))
 }
 
 // Whether some entry meets the test.

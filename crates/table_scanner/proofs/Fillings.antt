@@ -1,7 +1,8 @@
 -- What an entry brings, in the words of the catalogue and of the state.
-use Rattle.std.proofs.Common.{◌≡◌, ◌+◌, ◌-◌, ◌≤◌, Bool, true, false, cond, not, ◌&&◌, ◌||◌, leb, List, [], ◌∷◌, ◌++◌, length, is_some, Some, None, Ok, Option, unwrap_or, sym, refl, ap, ◌∙◌, subst, inl, inr, arith}
+use Rattle.std.proofs.Common.{◌≡◌, ◌+◌, ◌-◌, ◌≤◌, Bool, true, false, cond, ◌&&◌, ◌||◌, leb, List, [], ◌∷◌, ◌++◌, length, is_some, is_ok, Some, None, Err, Option, Result, unwrap_or, sym, refl, ap, ◌∙◌, subst, inl, inr, arith}
 use Rattle.std.proofs.lemmas.List.{length_push}
-use Rattle.std.proofs.lemmas.Bool.{and_from, or_left, or_right, or_cases, cases_Bool, cond-true, cond-false, both_ways, not-false, eq-eqb}
+use Rattle.std.proofs.lemmas.Bool.{and_from, and_parts, or_left, or_right, or_cases, cases_Bool, cond-true, cond-false, both_ways, not-false, eq-eqb}
+use Rattle.std.proofs.Math.Bool.{or-false}
 use Rattle.names.specs.declared.kinds.Source.{Source}
 use Rattle.names.specs.declared.kinds.PixelFormat.{PixelFormat}
 use Rattle.names.specs.declared.kinds.Word.{Word}
@@ -12,6 +13,7 @@ use Rattle.names.specs.Same.{same_source, same_format}
 use Rattle.scanner.specs.declared.point.Point.{Point}
 use Rattle.scanner.specs.Meaning.{Catalogue, same_point}
 use Rattle.scanner.proofs.Sames.{source_eq, point_eq}
+use Rattle.scanners.specs.declared.fault.FillFault.{FillFault}
 use Rattle.scanners.specs.declared.range.Range.{Range}
 use Rattle.scanners.specs.declared.values.Values.{Values}
 use Rattle.scanners.specs.declared.values.Values.TheVariants as kinds
@@ -23,20 +25,29 @@ use Rattle.table_scanner.specs.declared.entry.Pair.{Pair}
 use Rattle.table_scanner.specs.declared.entry.Setting.{Setting}
 use Rattle.table_scanner.specs.declared.entry.Offer.{Offer}
 use Rattle.table_scanner.specs.Lookup.{found}
-use Rattle.table_scanner.specs.Entries.{of_source, is_pair, at_point, offering, listed_catalogue, listed_state}
+use Rattle.table_scanner.specs.Entries.{of_source, is_pair, at_point, offering, listed_catalogue, listed_state, Anchored}
 use Rattle.table_scanner.specs.Bounds.{most_entries}
 use Rattle.table_scanner.specs.Device.{Device, start}
 use Rattle.table_scanner.specs.Filling.{Change, new_source, new_format, new_attribute, new_range, new_word, new_home, offer_of, is_word, ranges, missing, already, entries_of, with_pair, fault_of, unless_fault, carried_out, changed, after_call, read, Fills, Lawful, FillingKeepsTheLaws}
-use Rattle.table_scanner.proofs.Lookups.{found_new, found_old, any_old}
+use Rattle.table_scanner.proofs.Lookups.{value_or, found_any, found_new, found_old, any_old}
 
--- a call that no fault stops
-pub accepted : (d : Device) (c : Change) (new : Device) → fault_of d (Some c) ≡ None → new ≡ carried_out d c → Fills (Some c) d new (Ok tt)
-accepted d c new e h = record { says = sym (ap told e); after = h ∙ sym (ap (λ o. unless_fault o (carried_out d c) d) e) }
+-- a call that a fault stops changes nothing
+unchanged : (o : Option FillFault) (fault : FillFault) (new old : Device) → Err fault ≡ told o → old ≡ unless_fault o new old
+unchanged None fault new old h = absurd (both_ways false refl (ap is_ok h))
+unchanged (Some f) fault new old h = refl
 
--- an offer at a point that is there
-pub offer_fault : (d : Device) (p : Point) (vs : Values) → is_some (d.catalogue.power_on p) ≡ true → already d.catalogue (offer_of p vs) ≡ false → leb (most_entries + 1) (d.entries + 1) ≡ false → fault_of d (Some (offer_of p vs)) ≡ None
-offer_fault d p (kinds.Word w) there new room = λ j. first_fault false (not (there j)) (new j) (room j)
-offer_fault d p (kinds.Range r) there new room = λ j. first_fault false (not (there j)) (new j) (room j)
+pub refused : (d : Device) (call : Option Change) (c : Change) (fault : FillFault) (r : Result (Unit {0}) FillFault) → Some c ≡ call → Err fault ≡ told (fault_of d (Some c)) → r ≡ Err fault → Fills call d d r
+refused d call c fault r is why e =
+    subst (λ z. Fills z d d r) is (record { says = e ∙ why; after = unchanged (fault_of d (Some c)) fault (carried_out d c) d why })
+
+-- no fault stops a change: what it hangs on is there, and it is new
+no_fault : (missing there full : Bool) → first_fault false missing there full ≡ None → (missing ≡ false) × (there ≡ false)
+no_fault true there full h = absurd (both_ways true (ap is_some h) refl)
+no_fault false true full h = absurd (both_ways true (ap is_some h) refl)
+no_fault false false full h = (refl, refl)
+
+admitted : (d : Device) (c : Change) → fault_of d (Some c) ≡ None → (missing d.catalogue c ≡ false) × (already d.catalogue c ≡ false)
+admitted d c free = no_fault (missing d.catalogue c) (already d.catalogue c) (leb (most_entries + 1) (d.entries + entries_of c)) free
 
 -- the device that the lists make
 abbrev pub listed : List Pair → List Setting → List Offer → Source → Device
@@ -55,14 +66,6 @@ unswitched a s g f (x ∷ xs) =
       | false ↦ unswitched a s g f xs
     ]
 
-value_or : {X : Type 0} (b : Bool) (x d : X) (o : Option X) → unwrap_or (cond b (Some x) o) d ≡ cond b x (unwrap_or o d)
-value_or true x d o = refl
-value_or false x d o = refl
-
-or_nothing : (b : Bool) → (b || false) ≡ b
-or_nothing true = refl
-or_nothing false = refl
-
 same_either : {X : Type 0} (b : Bool) (x : X) → unwrap_or (cond b (Some x) None) x ≡ x
 same_either true x = refl
 same_either false x = refl
@@ -76,14 +79,39 @@ range_here : (r : Range) (v : Value) → is_one_of (kinds.Range r) v ≡ ranges 
 range_here r (values.Word v) = refl
 range_here r (values.Number n) = refl
 
+-- an offer at a point that has a setting
+pub anchored_push : (settings : List Setting) (offers : List Offer) (p : Point) (vs : Values) → any_of (at_point p) settings ≡ true → Anchored settings offers → Anchored settings (offers ++ record { point = p; values = vs } ∷ [])
+anchored_push settings offers p vs there was q v h =
+    elim (or_cases _ _ (sym (any_push (offering q v) offers _) ∙ h)) [
+      | inl old ↦ was q v old
+      | inr new ↦ subst (λ z. any_of (at_point z) settings ≡ true) (point_eq p q (and_parts _ _ new).0) there
+    ]
+
+-- an offer that no fault stops is at a point that has a setting
+pub offer_there : (d : Device) (p : Point) (vs : Values) → fault_of d (Some (offer_of p vs)) ≡ None → is_some (d.catalogue.power_on p) ≡ true
+offer_there d p (kinds.Word w) free = not-false _ (admitted d (new_word p w) free).0
+offer_there d p (kinds.Range r) free = not-false _ (admitted d (new_range p r.low r.high r.step) free).0
+
 module _ (pairs : List Pair) (settings : List Setting) (offers : List Offer) (home : Source) (started : 1 ≤ length pairs) where
-  pub brings_source : (s : Source) (f : PixelFormat) → any_of (of_source s) pairs ≡ false
-      → listed (pairs ++ record { source = s; format = f; enabled = false } ∷ []) settings offers home ≡ carried_out (listed pairs settings offers home) (new_source s f)
-  brings_source s f new =
+  abbrev d : Device
+  d = listed pairs settings offers home
+
+  pair_count : (y : Pair) → length (pairs ++ y ∷ []) + length settings + length offers - 1 ≡ (length pairs + length settings + length offers - 1) + 1
+  pair_count y = omega (arith, length_push pairs y)
+
+  setting_count : (y : Setting) → length pairs + length (settings ++ y ∷ []) + length offers - 1 ≡ (length pairs + length settings + length offers - 1) + 1
+  setting_count y = omega (arith, length_push settings y)
+
+  offer_count : (y : Offer) → length pairs + length settings + length (offers ++ y ∷ []) - 1 ≡ (length pairs + length settings + length offers - 1) + 1
+  offer_count y = omega (arith, length_push offers y)
+
+  pub brings_source : (s : Source) (f : PixelFormat) → fault_of d (Some (new_source s f)) ≡ None
+      → listed (pairs ++ record { source = s; format = f; enabled = false } ∷ []) settings offers home ≡ carried_out d (new_source s f)
+  brings_source s f free =
+      let new : any_of (of_source s) pairs ≡ false = (admitted d (new_source s f) free).1 in
       let y : Pair = record { source = s; format = f; enabled = false } in
       let k = listed_catalogue pairs settings offers home in
       let unlike : (a : Source) → same_source s a ≡ true → any_of (of_source a) pairs ≡ false = λ a e. subst (λ z. any_of (of_source z) pairs ≡ false) (source_eq s a e) new in
-      let count : length (pairs ++ y ∷ []) + length settings + length offers - 1 ≡ (length pairs + length settings + length offers - 1) + 1 = omega (arith, length_push pairs y) in
       λ j. record {
         catalogue = record {
           offers_source = λ a. any_push (of_source a) pairs y j;
@@ -94,16 +122,16 @@ module _ (pairs : List Pair) (settings : List Setting) (offers : List Offer) (ho
           home_format = λ a. (ap (λ o. unwrap_or o PixelFormat.Gray8) (found_new (of_source a) (λ x. x.format) pairs y (unlike a)) ∙ value_or (same_source s a) f PixelFormat.Gray8 (found (of_source a) (λ x. x.format) pairs)) j;
         };
         state = record { enabled = λ a g. unswitched a s g f pairs j; current = (listed_state pairs settings).current };
-        entries = count j;
+        entries = pair_count y j;
       }
 
-  pub brings_format : (s : Source) (f : PixelFormat) → any_of (of_source s) pairs ≡ true
-      → listed (pairs ++ record { source = s; format = f; enabled = false } ∷ []) settings offers home ≡ carried_out (listed pairs settings offers home) (new_format s f)
-  brings_format s f there =
+  pub brings_format : (s : Source) (f : PixelFormat) → fault_of d (Some (new_format s f)) ≡ None
+      → listed (pairs ++ record { source = s; format = f; enabled = false } ∷ []) settings offers home ≡ carried_out d (new_format s f)
+  brings_format s f free =
+      let there : any_of (of_source s) pairs ≡ true = not-false _ (admitted d (new_format s f) free).0 in
       let y : Pair = record { source = s; format = f; enabled = false } in
       let k = listed_catalogue pairs settings offers home in
       let known : (a : Source) → same_source s a ≡ true → any_of (of_source a) pairs ≡ true = λ a e. subst (λ z. any_of (of_source z) pairs ≡ true) (source_eq s a e) there in
-      let count : length (pairs ++ y ∷ []) + length settings + length offers - 1 ≡ (length pairs + length settings + length offers - 1) + 1 = omega (arith, length_push pairs y) in
       λ j. record {
         catalogue = record {
           offers_source = λ a. any_old (of_source a) (λ x. x) pairs y (known a) j;
@@ -114,16 +142,16 @@ module _ (pairs : List Pair) (settings : List Setting) (offers : List Offer) (ho
           home_format = λ a. unwrap_or (found_old (of_source a) (λ x. x.format) pairs y (known a) j) PixelFormat.Gray8;
         };
         state = record { enabled = λ a g. unswitched a s g f pairs j; current = (listed_state pairs settings).current };
-        entries = count j;
+        entries = pair_count y j;
       }
 
-  pub brings_attribute : (p : Point) (v : Value) → any_of (at_point p) settings ≡ false
-      → listed pairs (settings ++ record { point = p; initial = v; current = v } ∷ []) offers home ≡ carried_out (listed pairs settings offers home) (new_attribute p v)
-  brings_attribute p v new =
+  pub brings_attribute : (p : Point) (v : Value) → fault_of d (Some (new_attribute p v)) ≡ None
+      → listed pairs (settings ++ record { point = p; initial = v; current = v } ∷ []) offers home ≡ carried_out d (new_attribute p v)
+  brings_attribute p v free =
+      let new : any_of (at_point p) settings ≡ false = sym (found_any (at_point p) (λ x. x.initial) settings) ∙ (admitted d (new_attribute p v) free).1 in
       let y : Setting = record { point = p; initial = v; current = v } in
       let k = listed_catalogue pairs settings offers home in
       let unlike : (q : Point) → same_point p q ≡ true → any_of (at_point q) settings ≡ false = λ q e. subst (λ z. any_of (at_point z) settings ≡ false) (point_eq p q e) new in
-      let count : length pairs + length (settings ++ y ∷ []) + length offers - 1 ≡ (length pairs + length settings + length offers - 1) + 1 = omega (arith, length_push settings y) in
       λ j. record {
         catalogue = record {
           offers_source = k.offers_source;
@@ -134,14 +162,11 @@ module _ (pairs : List Pair) (settings : List Setting) (offers : List Offer) (ho
           home_format = k.home_format;
         };
         state = record { enabled = (listed_state pairs settings).enabled; current = λ q. found_new (at_point q) (λ x. x.current) settings y (unlike q) j };
-        entries = count j;
+        entries = setting_count y j;
       }
 
-  offer_count : (y : Offer) → length pairs + length settings + length (offers ++ y ∷ []) - 1 ≡ (length pairs + length settings + length offers - 1) + 1
-  offer_count y = omega (arith, length_push offers y)
-
   pub brings_offer : (p : Point) (vs : Values)
-      → listed pairs settings (offers ++ record { point = p; values = vs } ∷ []) home ≡ carried_out (listed pairs settings offers home) (offer_of p vs)
+      → listed pairs settings (offers ++ record { point = p; values = vs } ∷ []) home ≡ carried_out d (offer_of p vs)
   brings_offer p (kinds.Word w) =
       let y : Offer = record { point = p; values = kinds.Word w } in
       let k = listed_catalogue pairs settings offers home in
@@ -178,8 +203,8 @@ pub begun : listed (record { source = Source.FlatBed; format = PixelFormat.Gray8
 begun =
     λ j. record {
       catalogue = record {
-        offers_source = λ s. or_nothing (same_source Source.FlatBed s) j;
-        offers_format = λ s f. or_nothing (same_source Source.FlatBed s && same_format PixelFormat.Gray8 f) j;
+        offers_source = λ s. or-false (same_source Source.FlatBed s) j;
+        offers_format = λ s f. or-false (same_source Source.FlatBed s && same_format PixelFormat.Gray8 f) j;
         power_on = λ p. None;
         offers_value = λ p v. false;
         home_source = Source.FlatBed;

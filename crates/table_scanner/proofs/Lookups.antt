@@ -1,9 +1,14 @@
 -- What is found in a list, and in the list after an entry was added, replaced or mapped.
-use Rattle.std.specs.Prelude.{◌≡◌, ℕ, zero, suc, ◌<◌, Bool, true, false, cond, ◌||◌, List, [], ◌∷◌, ◌++◌, map, length, is_some, Some, None, slice_index_or, slice_set, refl}
+use Rattle.std.specs.Prelude.{◌≡◌, ℕ, zero, suc, ◌<◌, Bool, true, false, cond, ◌||◌, List, [], ◌∷◌, ◌++◌, map, length, is_some, Some, None, Option, slice_index_or, slice_set, refl}
 use Rattle.std.proofs.Common.{sym, ap, ◌∙◌, inl, inr, arith}
+use Rattle.std.specs.Option.{unwrap_or, option_map}
 use Rattle.std.proofs.lemmas.Bool.{cond-true, cond-false, cases_Bool, or_parts}
 use Rattle.scanners.specs.Search.{NoneBefore, any_of}
 use Rattle.table_scanner.specs.Lookup.{found}
+
+pub value_or : {X : Type 0} (b : Bool) (x d : X) (o : Option X) → unwrap_or (cond b (Some x) o) d ≡ cond b x (unwrap_or o d)
+value_or true x d o = refl
+value_or false x d o = refl
 
 module _ {X Y : Type 0} (test : X → Bool) (part : X → Y) where
   pub found_none : (xs : List X) → NoneBefore test xs (length xs) → found test part xs ≡ None
@@ -15,6 +20,14 @@ module _ {X Y : Type 0} (test : X → Bool) (part : X → Y) where
   found_at (x ∷ xs) zero d l here none = cond-true _ _ _ (here x)
   found_at (x ∷ xs) (suc i) d l here none =
       cond-false _ _ _ (none 0 x (omega arith)) ∙ found_at xs i d (omega arith) here (λ k e b. none (suc k) e (omega arith))
+
+  -- a part of the first entry that meets the test
+  found_part : (xs : List X) → found test part xs ≡ option_map part (found test (λ x. x) xs)
+  found_part [] = refl
+  found_part (x ∷ xs) = elim (test x) as (λ b. cond b (Some (part x)) (found test part xs) ≡ option_map part (cond b (Some x) (found test (λ x. x) xs))) [ true ↦ refl | false ↦ found_part xs ]
+
+  pub part_found : (xs ys : List X) (o : Option X) → ys ≡ xs → o ≡ found test (λ x. x) ys → option_map part o ≡ found test part xs
+  part_found xs ys o e h = ap (option_map part) (h ∙ ap (found test (λ x. x)) e) ∙ sym (found_part xs)
 
   pub found_any : (xs : List X) → is_some (found test part xs) ≡ any_of test xs
   found_any [] = refl

@@ -3,4 +3,5 @@ pub mod Lookup
 pub mod Entries
 pub mod Device
 pub mod Filling
+pub mod Changes
 pub mod HomeOffered

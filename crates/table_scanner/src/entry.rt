@@ -1,5 +1,6 @@
 // What the table holds, and the tests by which an entry is found.
-ghost use Rattle.table_scanner.specs.Entries.{of_source, is_pair, at_point, offering};
+ghost use Rattle.std.specs.Prelude.{◌≡◌};
+ghost use Rattle.table_scanner.specs.Entries.{of_source, is_pair, at_point, offering, off, restored};
 
 use names::{PixelFormat, Source, Value};
 use scanner::Point;
@@ -28,6 +29,32 @@ pub struct Offer {
     pub values: Values,
 }
 
+// What can be put back as it was at power-on.
+pub trait Reset {
+    ghost after: { Self → Self };
+
+    fn reset(&mut self)
+        ensures { self.new ≡ after self.old };
+}
+
+impl Reset for Pair {
+    ghost after = { off };
+
+    fn reset(&mut self) {
+        self.enabled = false;
+    }
+}
+
+impl Reset for Setting {
+    ghost after = { restored };
+
+    fn reset(&mut self) {
+        self.current = self.initial;
+    }
+}
+
+// The tests: structs, since the one search takes its test under a trait, and each with a name, since a key alone would leave
+// unsaid what it is compared with.
 #[derive(Clone, Copy)]
 pub struct OfSource {
     pub source: Source,

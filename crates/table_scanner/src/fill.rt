@@ -1,4 +1,5 @@
-// Filling calls as a setup tool sends them: everything that has a name goes by its number.
+// Filling calls as a setup tool sends them: everything that has a name goes by its number, so these are u32 and not
+// names, and the parts of a point come apart.
 #[derive(Clone, Copy)]
 pub enum Given {
     Word(u32),

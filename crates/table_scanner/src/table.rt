@@ -1,4 +1,4 @@
-// The table scanner's memory. All of it is taken when it is made.
+// The table scanner's memory: lists and no maps, since no later call may allocate; each has room for all entries.
 ghost use Rattle.std.specs.Prelude.{◌≡◌, ◌+◌, ◌≤◌, true, vec_len, vec_capacity};
 ghost use Rattle.scanners.specs.Search.{any_of};
 ghost use Rattle.table_scanner.specs.Bounds.{most_entries};

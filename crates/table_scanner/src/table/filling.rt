@@ -1,16 +1,18 @@
-// The calls that fill a table scanner. Everything that has a name goes by its number, as a setup tool sends it.
-ghost use Rattle.std.specs.Prelude.{◌≡◌, ◌+◌, IfOk, Some, nat_le};
-ghost use Rattle.scanners.specs.declared.values.Values.{Values};
-ghost use Rattle.table_scanner.specs.Bounds.{most_entries};
+// The calls that fill a table scanner. Everything that has a name goes by its number, and the parts of a point and of a range
+// come apart, as a setup tool sends them.
+ghost use Rattle.std.specs.Prelude.{◌≡◌, IfOk, Some, None};
+ghost use Rattle.scanners.specs.Faults.{told};
+ghost use Rattle.table_scanner.specs.Changes.{change_of};
 ghost use Rattle.table_scanner.specs.Device.{device, catalogue_of, start};
-ghost use Rattle.table_scanner.specs.Filling.{Fills, new_source, new_format, new_attribute, new_home, offer_of, already, read, all_given, point_numbered, value_given, Lawful, FillingKeepsTheLaws};
+ghost use Rattle.table_scanner.specs.Filling.{Fills, missing, already, fault_of, carried_out, read, all_given, Lawful, FillingKeepsTheLaws};
 
+use crate::change::Change;
 use crate::entry::{Offer, Pair, Setting};
 use crate::fill::{Fill, Given};
 use crate::table::TableScanner;
-use names::{Attribute, PixelFormat, Source, Value, Word};
-use scanner::{Point, Scanner};
-use scanners::{FillFault, Range, Values};
+use names::{PixelFormat, Source, Value};
+use scanner::Scanner;
+use scanners::{FillFault, Values};
 use std::alloc::{AllocError, Global};
 
 // As many entries as a table has room for, beyond the start.
@@ -37,129 +39,89 @@ impl TableScanner {
         })
     }
 
-    fn is_full(&self) -> bool
-        ensures { result ≡ nat_le (most_entries + 1) ((device self.now).entries + 1) }
+    // The entries beyond the start.
+    fn entries(&self) -> usize
+        ensures { result ≡ (device self.now).entries }
     {
-        self.pairs.len() + self.settings.len() + self.offers.len() > MOST_ENTRIES
+        self.pairs.len() + self.settings.len() + self.offers.len() - 1
     }
 
-    fn bring_source(&mut self, source: Source, format: PixelFormat) -> Result<(), FillFault>
-        ensures { Fills (Some (new_source source format)) (device self.old) (device self.new) result }
+    // What it hangs on is not there: a format and the home on their source, an attribute on its pair, an offer on its point.
+    fn misses(&self, change: Change) -> bool
+        ensures { result ≡ missing (catalogue_of self.now) (change_of change) }
     {
-        if self.offers_source(source) {
-            return Err(FillFault::AlreadyThere);
-        }
-        if self.is_full() {
-            return Err(FillFault::Full);
-        }
-        self.pairs.push_reserved(Pair {
-            source,
-            format,
-            enabled: false,
-        });
-        Ok(())
-    }
-
-    fn bring_format(&mut self, source: Source, format: PixelFormat) -> Result<(), FillFault>
-        ensures { Fills (Some (new_format source format)) (device self.old) (device self.new) result }
-    {
-        if !self.offers_source(source) {
-            return Err(FillFault::Missing);
-        }
-        if self.offers_format(source, format) {
-            return Err(FillFault::AlreadyThere);
-        }
-        if self.is_full() {
-            return Err(FillFault::Full);
-        }
-        self.pairs.push_reserved(Pair {
-            source,
-            format,
-            enabled: false,
-        });
-        Ok(())
-    }
-
-    fn bring_attribute(&mut self, point: Point, value: Value) -> Result<(), FillFault>
-        ensures { Fills (Some (new_attribute point value)) (device self.old) (device self.new) result }
-    {
-        if !self.offers_format(point.source, point.format) {
-            return Err(FillFault::Missing);
-        }
-        if self.offers_attribute(point) {
-            return Err(FillFault::AlreadyThere);
-        }
-        if self.is_full() {
-            return Err(FillFault::Full);
-        }
-        self.settings.push_reserved(Setting {
-            point,
-            initial: value,
-            current: value,
-        });
-        Ok(())
-    }
-
-    // A word can be there already; ranges may repeat and overlap.
-    fn has_already(&self, point: Point, values: Values) -> bool
-        ensures { result ≡ already (catalogue_of self.now) (offer_of point values) }
-    {
-        match values {
-            Values::Word(word) => self.offers_value(point, Value::Word(word)),
-            Values::Range(_) => false,
+        match change {
+            Change::Source(..) => false,
+            Change::Format(source, _) | Change::Home(source) => !self.offers_source(source),
+            Change::Attribute(point, _) => !self.offers_format(point.source, point.format),
+            Change::Offer(point, _) => !self.offers_attribute(point),
         }
     }
 
-    fn bring_offer(&mut self, point: Point, values: Values) -> Result<(), FillFault>
-        ensures { Fills (Some (offer_of point values)) (device self.old) (device self.new) result }
+    // It is already there. A word can be there already; ranges may repeat and overlap.
+    fn has_already(&self, change: Change) -> bool
+        ensures { result ≡ already (catalogue_of self.now) (change_of change) }
     {
-        if !self.offers_attribute(point) {
-            return Err(FillFault::Missing);
+        match change {
+            Change::Source(source, _) => self.offers_source(source),
+            Change::Format(source, format) => self.offers_format(source, format),
+            Change::Attribute(point, _) => self.offers_attribute(point),
+            Change::Offer(point, Values::Word(word)) => self.offers_value(point, Value::Word(word)),
+            Change::Offer(_, Values::Range(_)) | Change::Home(_) => false,
         }
-        if self.has_already(point, values) {
-            return Err(FillFault::AlreadyThere);
-        }
-        if self.is_full() {
-            return Err(FillFault::Full);
-        }
-        self.offers.push_reserved(Offer { point, values });
-        Ok(())
     }
 
-    fn bring_home(&mut self, source: Source) -> Result<(), FillFault>
-        ensures { Fills (Some (new_home source)) (device self.old) (device self.new) result }
+    // Whether a change can be carried out; the reasons against it come in the order of their numbers.
+    fn admits(&self, change: Change) -> Result<(), FillFault>
+        ensures { result ≡ told (fault_of (device self.now) (Some (change_of change))) }
     {
-        if !self.offers_source(source) {
-            return Err(FillFault::Missing);
+        if self.misses(change) {
+            Err(FillFault::Missing)
+        } else if self.has_already(change) {
+            Err(FillFault::AlreadyThere)
+        } else if self.entries() + change.entries() > MOST_ENTRIES {
+            Err(FillFault::Full)
+        } else {
+            Ok(())
         }
-        self.home = source;
-        Ok(())
+    }
+
+    fn carry_out(&mut self, change: Change)
+        requires { fault_of (device self.old) (Some (change_of change)) ≡ None }
+        ensures { device self.new ≡ carried_out (device self.old) (change_of change) }
+    {
+        match change {
+            Change::Source(source, format) | Change::Format(source, format) => {
+                self.pairs.push_reserved(Pair {
+                    source,
+                    format,
+                    enabled: false,
+                });
+            }
+            Change::Attribute(point, value) => {
+                self.settings.push_reserved(Setting {
+                    point,
+                    initial: value,
+                    current: value,
+                });
+            }
+            Change::Offer(point, values) => self.offers.push_reserved(Offer { point, values }),
+            Change::Home(source) => self.home = source,
+        }
     }
 
     // Adds a source with its home format.
     pub fn add_source(&mut self, source: u32, format: u32) -> Result<(), FillFault>
         ensures { Fills (read (Fill.Source source format)) (device self.old) (device self.new) result }
     {
-        let Some(source) = Source::from_number(source) else {
-            return Err(FillFault::BadNumber);
-        };
-        let Some(format) = PixelFormat::from_number(format) else {
-            return Err(FillFault::BadNumber);
-        };
-        self.bring_source(source, format)
+        self.take(Fill::Source(source, format))
     }
 
     // Adds a format to a source.
     pub fn add_format(&mut self, source: u32, format: u32) -> Result<(), FillFault>
         ensures { Fills (read (Fill.Format source format)) (device self.old) (device self.new) result }
     {
-        let Some(source) = Source::from_number(source) else {
-            return Err(FillFault::BadNumber);
-        };
-        let Some(format) = PixelFormat::from_number(format) else {
-            return Err(FillFault::BadNumber);
-        };
-        self.bring_format(source, format)
+        self.take(Fill::Format(source, format))
     }
 
     // Adds an attribute to a pair, with its power-on value, which is current from then on.
@@ -172,13 +134,7 @@ impl TableScanner {
     ) -> Result<(), FillFault>
         ensures { Fills (read (Fill.Attribute source format attribute value)) (device self.old) (device self.new) result }
     {
-        let Some(point) = point_numbered(source, format, attribute) else {
-            return Err(FillFault::BadNumber);
-        };
-        let Some(value) = value_given(value) else {
-            return Err(FillFault::BadNumber);
-        };
-        self.bring_attribute(point, value)
+        self.take(Fill::Attribute(source, format, attribute, value))
     }
 
     // Offers the numbers low, low + step and so on up to high at a point.
@@ -193,13 +149,7 @@ impl TableScanner {
     ) -> Result<(), FillFault>
         ensures { Fills (read (Fill.Range source format attribute low high step)) (device self.old) (device self.new) result }
     {
-        let Some(point) = point_numbered(source, format, attribute) else {
-            return Err(FillFault::BadNumber);
-        };
-        let Some(range) = Range::new(low, high, step) else {
-            return Err(FillFault::BadNumber);
-        };
-        self.bring_offer(point, Values::Range(range))
+        self.take(Fill::Range(source, format, attribute, low, high, step))
     }
 
     // Offers a word at a point.
@@ -212,43 +162,24 @@ impl TableScanner {
     ) -> Result<(), FillFault>
         ensures { Fills (read (Fill.Word source format attribute word)) (device self.old) (device self.new) result }
     {
-        let Some(point) = point_numbered(source, format, attribute) else {
-            return Err(FillFault::BadNumber);
-        };
-        let Some(word) = Word::from_number(word) else {
-            return Err(FillFault::BadNumber);
-        };
-        self.bring_offer(point, Values::Word(word))
+        self.take(Fill::Word(source, format, attribute, word))
     }
 
     // Names the home source. That is no entry.
     pub fn name_home(&mut self, source: u32) -> Result<(), FillFault>
         ensures { Fills (read (Fill.Home source)) (device self.old) (device self.new) result }
     {
-        let Some(source) = Source::from_number(source) else {
-            return Err(FillFault::BadNumber);
-        };
-        self.bring_home(source)
+        self.take(Fill::Home(source))
     }
 
     // One filling call.
     pub fn take(&mut self, call: Fill) -> Result<(), FillFault>
         ensures { Fills (read call) (device self.old) (device self.new) result }
     {
-        match call {
-            Fill::Source(source, format) => self.add_source(source, format),
-            Fill::Format(source, format) => self.add_format(source, format),
-            Fill::Attribute(source, format, attribute, value) => self.add_attribute(
-                source, format, attribute, value,
-            ),
-            Fill::Range(source, format, attribute, low, high, step) => self.add_range(
-                source, format, attribute, low, high, step,
-            ),
-            Fill::Word(source, format, attribute, word) => self.add_word(
-                source, format, attribute, word,
-            ),
-            Fill::Home(source) => self.name_home(source),
-        }
+        let change = Change::read(call).ok_or(FillFault::BadNumber)?;
+        self.admits(change)?;
+        self.carry_out(change);
+        Ok(())
     }
 
     // A list of filling calls, in order; those that are refused change nothing.
@@ -260,36 +191,5 @@ impl TableScanner {
         for call in calls {
             let _ = self.take(*call);
         }
-    }
-}
-
-fn point_numbered(source: u32, format: u32, attribute: u32) -> Option<Point>
-    ensures { result ≡ point_numbered source format attribute }
-{
-    let Some(source) = Source::from_number(source) else {
-        return None;
-    };
-    let Some(format) = PixelFormat::from_number(format) else {
-        return None;
-    };
-    let Some(attribute) = Attribute::from_number(attribute) else {
-        return None;
-    };
-    Some(Point {
-        source,
-        format,
-        attribute,
-    })
-}
-
-fn value_given(value: Given) -> Option<Value>
-    ensures { result ≡ value_given value }
-{
-    match value {
-        Given::Number(number) => Some(Value::Number(number)),
-        Given::Word(word) => match Word::from_number(word) {
-            Some(word) => Some(Value::Word(word)),
-            None => None,
-        },
     }
 }

@@ -1,32 +1,32 @@
 // What a table scanner means.
 ghost use Rattle.std.specs.Prelude.{◌≡◌, map};
+ghost use Rattle.std.specs.Option.{option_copied};
+ghost use Rattle.table_scanner.specs.Lookup.{found};
 ghost use Rattle.table_scanner.specs.Device.{catalogue_of, state_of};
-ghost use Rattle.table_scanner.specs.Entries.{off, restored};
 ghost use Rattle.table_scanner.specs.HomeOffered.{home_offered};
 ghost use Rattle.std.proofs.Common.{rules};
 
-use crate::entry::{AtPoint, IsPair, OfSource, Offering, Pair, Setting};
+use crate::entry::{AtPoint, IsPair, OfSource, Offering, Reset};
 use crate::table::TableScanner;
 use names::{PixelFormat, Source, Value};
 use scanner::{Point, Scanner};
-use scanners::{any, first};
+use scanners::{Test, any, first};
 
-// No pair enabled.
-fn switch_off(pairs: &mut [Pair])
-    ensures { pairs.new ≡ map off pairs.old }
+// Every entry as it is at power-on.
+fn reset_all<T: Reset>(entries: &mut [T])
+    ensures { entries.new ≡ map T.after entries.old }
 {
-    for pair in pairs.iter_mut() {
-        pair.enabled = false;
+    for entry in entries.iter_mut() {
+        entry.reset();
     }
 }
 
-// Every point at its power-on value.
-fn restore(settings: &mut [Setting])
-    ensures { settings.new ≡ map restored settings.old }
+// The first entry that meets the test, or none.
+fn find<'a, T, P: Test<T>>(entries: &'a [T], test: &P) -> Option<&'a T>
+    ensures { option_copied result ≡ found (P.Test.holds test.now) (λ x. x) entries.now }
 {
-    for setting in settings.iter_mut() {
-        setting.current = setting.initial;
-    }
+    let i = first(entries, test)?;
+    Some(&entries[i])
 }
 
 impl Scanner for TableScanner {
@@ -59,60 +59,39 @@ impl Scanner for TableScanner {
     }
 
     fn home_format(&self, source: Source) -> PixelFormat {
-        match first(self.pairs.as_slice(), &OfSource { source }) {
-            Some(i) => self.pairs[i].format,
-            None => PixelFormat::Gray8,
-        }
+        let home = find(self.pairs.as_slice(), &OfSource { source });
+        home.map_or(PixelFormat::Gray8, |pair| pair.format)
     }
 
     fn enabled(&self, source: Source, format: PixelFormat) -> bool {
-        match first(self.pairs.as_slice(), &IsPair { source, format }) {
-            Some(i) => self.pairs[i].enabled,
-            None => false,
-        }
+        find(self.pairs.as_slice(), &IsPair { source, format }).is_some_and(|pair| pair.enabled)
     }
 
     fn current(&self, point: Point) -> Option<Value> {
-        match first(self.settings.as_slice(), &AtPoint { point }) {
-            Some(i) => Some(self.settings[i].current),
-            None => None,
-        }
+        find(self.settings.as_slice(), &AtPoint { point }).map(|setting| setting.current)
     }
 
     fn reset(&mut self) {
-        switch_off(self.pairs.as_mut_slice());
-        restore(self.settings.as_mut_slice());
+        reset_all(self.pairs.as_mut_slice());
+        reset_all(self.settings.as_mut_slice());
     }
 
     fn enable(&mut self, source: Source, format: PixelFormat) -> bool {
-        match first(self.pairs.as_slice(), &IsPair { source, format }) {
-            Some(i) => {
-                self.pairs[i] = Pair {
-                    source,
-                    format,
-                    enabled: true,
-                };
-                true
-            }
-            None => false,
-        }
+        let Some(i) = first(self.pairs.as_slice(), &IsPair { source, format }) else {
+            return false;
+        };
+        self.pairs[i].enabled = true;
+        true
     }
 
     fn set(&mut self, point: Point, value: Value) -> bool {
         if !self.offers_value(point, value) {
             return false;
         }
-        match first(self.settings.as_slice(), &AtPoint { point }) {
-            Some(i) => {
-                let initial = self.settings[i].initial;
-                self.settings[i] = Setting {
-                    point,
-                    initial,
-                    current: value,
-                };
-                true
-            }
-            None => false,
-        }
+        let Some(i) = first(self.settings.as_slice(), &AtPoint { point }) else {
+            return false;
+        };
+        self.settings[i].current = value;
+        true
     }
 }

@@ -1,6 +1,7 @@
-use Rattle.std.proofs.Common.{refl, arith}
+use Rattle.std.proofs.Common.{arith}
 use Rattle.std.proofs.lemmas.Bool.Decides.{nat_tests}
+use Rattle.scanner.proofs.Sames.{attribute_eq}
 use Rattle.scanners.proofs.flatbed.Settings.put.Goals as goal
 
-pub returns-else-eq-3 : goal.returns-else-eq-3
-returns-else-eq-3 c = record { enabled = refl; held = λ a. grind (arith, nat_tests) }
+pub returns-in_default-clause-held : goal.returns-in_default-clause-held
+returns-in_default-clause-held c = λ a. grind (arith, nat_tests, attribute_eq c.args.attribute a)

@@ -4,8 +4,8 @@ use Rattle.scanners.specs.Ranges.{Reached}
 use Rattle.scanners.proofs.Steps.{whole_steps}
 use Rattle.scanners.proofs.range.Range.has.Goals as goal
 
-pub returns-then-number-self : goal.returns-then-number-self
-returns-then-number-self c =
+pub returns-then-number-self-clause-law : goal.returns-then-number-self-clause-law
+returns-then-number-self-clause-law c =
     let x = c.args.self.now in
     let n = c.args.number in
     let low_fits : SFits w32 x.low = search rules in
@@ -13,7 +13,4 @@ returns-then-number-self c =
     let far : c.abs_diff.result ≡ nat_abs (n -ℤ x.low) = simp to_z-of_z at c.abs_diff.ensures in
     let above : x.low ≤ℤ n = search rules in
     let below : n ≤ℤ x.high = search rules in
-    record {
-      test = search rules;
-      law = subst (λ d. Decides (eqb (d % x.step) 0) (Reached x.low x.high x.step n)) (sym far) (whole_steps x.low x.high x.step n above below);
-    }
+    subst (λ d. Decides (eqb (d % x.step) 0) (Reached x.low x.high x.step n)) (sym far) (whole_steps x.low x.high x.step n above below)

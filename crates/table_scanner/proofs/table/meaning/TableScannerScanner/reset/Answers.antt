@@ -14,11 +14,11 @@ invariant_of-self c =
     let x = c.args.self.now in
     let xs = vec_items x.pairs in
     let ys = vec_items x.settings in
-    let pairs = refilled_map off x.pairs c.switch_off.new.pairs (c.switch_off.ensures ∙ ap (map off) c.as_mut_slice.ensures.value) in
-    let settings = refilled_map restored x.settings c.restore.new.settings (c.restore.ensures ∙ ap (map restored) c.as_mut_slice-2.ensures.value) in
-    let homed : any_of (of_source x.home) (vec_items (with_items x.pairs c.switch_off.new.pairs)) ≡ true =
+    let pairs = refilled_map off x.pairs c.reset_all.new.entries (c.reset_all.ensures ∙ ap (map off) c.as_mut_slice.ensures.value) in
+    let settings = refilled_map restored x.settings c.reset_all-2.new.entries (c.reset_all-2.ensures ∙ ap (map restored) c.as_mut_slice-2.ensures.value) in
+    let homed : any_of (of_source x.home) (vec_items (with_items x.pairs c.reset_all.new.entries)) ≡ true =
     ap (any_of (of_source x.home)) pairs ∙ any_map (of_source x.home) (λ z. z) off (λ z. refl) xs ∙ x.homed in
-    let anchored : Anchored (vec_items (with_items x.settings c.restore.new.settings)) (vec_items x.offers) =
+    let anchored : Anchored (vec_items (with_items x.settings c.reset_all-2.new.entries)) (vec_items x.offers) =
     λ p v h. ap (any_of (at_point p)) settings ∙ any_map (at_point p) (λ z. z) restored (λ z. refl) ys ∙ x.anchored p v h in
     search rules
 
@@ -27,8 +27,8 @@ returns c =
     let x = c.args.self.now in
     let xs = vec_items x.pairs in
     let ys = vec_items x.settings in
-    let pairs = refilled_map off x.pairs c.switch_off.new.pairs (c.switch_off.ensures ∙ ap (map off) c.as_mut_slice.ensures.value) in
-    let settings = refilled_map restored x.settings c.restore.new.settings (c.restore.ensures ∙ ap (map restored) c.as_mut_slice-2.ensures.value) in
+    let pairs = refilled_map off x.pairs c.reset_all.new.entries (c.reset_all.ensures ∙ ap (map off) c.as_mut_slice.ensures.value) in
+    let settings = refilled_map restored x.settings c.reset_all-2.new.entries (c.reset_all-2.ensures ∙ ap (map restored) c.as_mut_slice-2.ensures.value) in
     record {
       same = λ j. record {
         offers_source = λ a. (ap (any_of (of_source a)) pairs ∙ any_map (of_source a) (λ z. z) off (λ z. refl) xs) j;
