@@ -1,3 +1,4 @@
+pub mod Complaints
 pub mod Faults
 pub mod Held
 pub mod Unmoved

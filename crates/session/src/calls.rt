@@ -3,29 +3,33 @@ ghost use Rattle.std.specs.Prelude.{◌≡◌, ◌≤◌, ◌⊎◌, length, IfO
 ghost use Rattle.session.specs.Held.{Holds};
 ghost use Rattle.session.specs.Unmoved.{Unmoved};
 
+use crate::complaints::complaint;
 use crate::fault::{NoMemory, OutputFault, SubmitFault};
 use crate::held::Session;
-use crate::reply::write_reply;
-use crate::writer::Writer;
+use crate::output::put_out;
+use crate::reply::Reply;
 use negotiation::{Plan, Verdict, default_plan, negotiate};
 use scanner::{Scanner, put_in};
-use std::alloc::Global;
+use std::alloc::{AllocError, Global};
+use std::mem;
 use table::{Place, Record, read_task};
+
+// Memory for two plans.
+fn two_plans(heap: Global) -> Result<(Plan, Plan), AllocError> {
+    Ok((Plan::new(heap)?, Plan::new(heap)?))
+}
 
 impl<S: Scanner> Session<S> {
     // Takes a scanner in any state and gives it the plan of the default stream.
-    pub fn open(heap: Global, scanner: S) -> Result<Session<S>, NoMemory<S>>
+    pub fn open(heap: Global, mut scanner: S) -> Result<Session<S>, NoMemory<S>>
         ensures same { IfOk result (λ x. S.catalogue x.scanner ≡ S.catalogue scanner) }
         ensures holds { IfOk result (λ x. Holds (S.catalogue scanner) (S.state x.scanner) x.kept) }
         ensures back { IfErr result (λ e. e.scanner ≡ scanner) }
     {
-        let Ok(mut kept) = Plan::new(heap) else {
+        // No `map_err` with `?`: its closure would take the scanner, which the lines below still need.
+        let Ok((mut kept, spare)) = two_plans(heap) else {
             return Err(NoMemory { scanner });
         };
-        let Ok(spare) = Plan::new(heap) else {
-            return Err(NoMemory { scanner });
-        };
-        let mut scanner = scanner;
         default_plan(&scanner, &mut kept);
         put_in(&mut scanner, kept.items());
         Ok(Session {
@@ -42,12 +46,10 @@ impl<S: Scanner> Session<S> {
     {
         let Session {
             scanner,
-            kept,
-            spare,
+            kept: _,
+            spare: _,
             place: _,
         } = self;
-        drop(kept);
-        drop(spare);
         scanner
     }
 
@@ -62,10 +64,10 @@ impl<S: Scanner> Session<S> {
             &self.scanner,
             &mut self.place,
             &mut self.spare,
-            &table[0..used],
+            &table[..used],
         )?;
-        if let Verdict::Configured = verdict {
-            std::mem::swap(&mut self.kept, &mut self.spare);
+        if verdict == Verdict::Configured {
+            mem::swap(&mut self.kept, &mut self.spare);
             put_in(&mut self.scanner, self.kept.items());
         }
         Ok(())
@@ -76,22 +78,25 @@ impl<S: Scanner> Session<S> {
         ensures within { IfOk result (λ n. n ≤ length buffer.new) }
         ensures refused { OnErr result (buffer.new ≡ buffer.old) }
     {
-        let items = self.kept.items();
-        let mut nothing: [u8; 0] = [];
-        let mut measure = Writer {
-            buffer: &mut nothing,
-            len: 0,
-        };
-        write_reply(&mut measure, items);
-        let size = measure.len;
-        if size > buffer.len() {
-            return Err(OutputFault::BufferTooShort);
+        put_out(&Reply(self.kept.items()), buffer)
+    }
+
+    // Submits a task, and writes the reply into the buffer, or the complaint where the task is refused: how many bytes.
+    pub fn answer(
+        &mut self,
+        text: &[u8],
+        table: &mut [Record],
+        buffer: &mut [u8],
+    ) -> Result<usize, OutputFault>
+        ensures same { S.catalogue self.new.scanner ≡ S.catalogue self.old.scanner }
+        ensures holds { Holds (S.catalogue self.old.scanner) (S.state self.new.scanner) self.new.kept }
+        ensures within { IfOk result (λ n. n ≤ length buffer.new) }
+        ensures refused { OnErr result (buffer.new ≡ buffer.old) }
+    {
+        // No `map_or_else`: both of its closures would take the buffer.
+        match self.submit(text, table) {
+            Ok(()) => self.reply(buffer),
+            Err(fault) => complaint(&fault, buffer),
         }
-        let mut out = Writer {
-            buffer: &mut *buffer,
-            len: 0,
-        };
-        write_reply(&mut out, items);
-        Ok(size)
     }
 }

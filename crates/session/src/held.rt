@@ -1,4 +1,6 @@
-// What a session holds.
+// What a session holds: its scanner is always in the state that the kept plan leaves.
+ghost use Rattle.session.specs.Held.{Holds};
+
 use negotiation::Plan;
 use scanner::Scanner;
 use table::Place;
@@ -10,4 +12,5 @@ pub struct Session<S: Scanner> {
     // Where the plan of a task is drawn up.
     pub(crate) spare: Plan,
     pub(crate) place: Place,
+    ghost holds: { Holds (S.catalogue scanner) (S.state scanner) kept },
 }

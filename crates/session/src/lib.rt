@@ -5,8 +5,8 @@ mod calls;
 mod complaints;
 mod fault;
 mod held;
+mod output;
 mod reply;
-mod writer;
 
 pub use complaints::complaint;
 pub use fault::{NoMemory, OutputFault, SubmitFault};

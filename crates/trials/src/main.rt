@@ -2,15 +2,13 @@
 // the answer, then how each pair stands once the session is closed (enabled or not, resolution, brightness, compression).
 #![tactic(auto)]
 
-ghost use Rattle.std.specs.Prelude.{◌≤◌, length, IfOk};
-
-use anyhow::anyhow;
-use names::{Attribute, PixelFormat, Source, Value};
+use anyhow::Error;
+use names::{Attribute, Named, PixelFormat, Source, Value};
 use negotiation::PLAN_ROOM;
 use scanner::{Point, Scanner};
 use scanners::Flatbed;
-use session::{NoMemory, OutputFault, Session, complaint};
-use std::alloc::Global;
+use session::Session;
+use std::alloc::{AllocError, Global};
 use std::io;
 use std::io::Write;
 use table::Record;
@@ -18,23 +16,9 @@ use text::MAX_LENGTH;
 
 const OUTPUT_ROOM: usize = 2048;
 
+// Prints bytes as they are.
 fn write(rt: &HostRuntime, bytes: &[u8]) -> io::Result<()> {
     rt.stdout().write_all(bytes)
-}
-
-// Submits a text; the reply, or the complaint, goes into the buffer.
-fn answer(
-    session: &mut Session<Flatbed>,
-    text: &[u8],
-    table: &mut [Record],
-    buffer: &mut [u8],
-) -> Result<usize, OutputFault>
-    ensures { IfOk result (λ n. n ≤ length buffer.new) }
-{
-    match session.submit(text, table) {
-        Ok(()) => session.reply(buffer),
-        Err(fault) => complaint(&fault, buffer),
-    }
 }
 
 // Submits a text and prints the answer.
@@ -42,79 +26,64 @@ fn submit(rt: &HostRuntime, session: &mut Session<Flatbed>, text: &[u8]) -> anyh
     let heap = rt.alloc();
     let mut table = vec![in heap; Record::Vacant; PLAN_ROOM]?;
     let mut output = vec![in heap; 0u8; OUTPUT_ROOM]?;
-    let Ok(size) = answer(session, text, &mut table, &mut output) else {
-        return Err(anyhow!("the answer is longer than its room"));
-    };
-    write(rt, &output[0..size])?;
+    let size = session.answer(text, &mut table, &mut output)?;
+    write(rt, &output[..size])?;
     Ok(())
 }
 
 fn print_value(rt: &HostRuntime, value: Option<Value>) -> io::Result<()> {
+    print!(rt; " ")?;
     match value {
-        Some(Value::Number(n)) => print!(rt; " {n}"),
-        Some(Value::Word(word)) => {
-            write(rt, b" ")?;
-            write(rt, word.name())
-        }
-        None => write(rt, b" -"),
+        Some(Value::Number(n)) => print!(rt; "{n}"),
+        Some(Value::Word(word)) => write(rt, word.name()),
+        None => print!(rt; "-"),
     }
 }
 
 fn print_pair(rt: &HostRuntime, flatbed: &Flatbed, format: PixelFormat) -> io::Result<()> {
     let source = Source::FlatBed;
-    write(rt, b" | ")?;
+    print!(rt; " | ")?;
     write(rt, format.name())?;
-    if flatbed.enabled(source, format) {
-        write(rt, b" enabled")?
+    let state = if flatbed.enabled(source, format) {
+        "enabled"
     } else {
-        write(rt, b" disabled")?
+        "disabled"
+    };
+    print!(rt; " {state}")?;
+    for attribute in [
+        Attribute::Resolution,
+        Attribute::Brightness,
+        Attribute::Compression,
+    ] {
+        let point = Point {
+            source,
+            format,
+            attribute,
+        };
+        print_value(rt, flatbed.current(point))?;
     }
-    print_value(
-        rt,
-        flatbed.current(Point {
-            source,
-            format,
-            attribute: Attribute::Resolution,
-        }),
-    )?;
-    print_value(
-        rt,
-        flatbed.current(Point {
-            source,
-            format,
-            attribute: Attribute::Brightness,
-        }),
-    )?;
-    print_value(
-        rt,
-        flatbed.current(Point {
-            source,
-            format,
-            attribute: Attribute::Compression,
-        }),
-    )
+    Ok(())
 }
 
-// One trial: a first task, then a second, in one session.
+// One trial: a first task, if there is one, then a second, in one session.
 fn both(
     rt: &HostRuntime,
     session: &mut Session<Flatbed>,
-    first: &[u8],
+    first: Option<&[u8]>,
     second: &[u8],
 ) -> anyhow::Result<()> {
-    if first.len() > 0 {
+    if let Some(first) = first {
         submit(rt, session, first)?;
-        write(rt, b" | ")?;
+        print!(rt; " | ")?;
     }
     submit(rt, session, second)
 }
 
-fn trial(rt: &HostRuntime, name: &str, first: &[u8], second: &[u8]) -> anyhow::Result<()> {
+fn trial(rt: &HostRuntime, name: &str, first: Option<&[u8]>, second: &[u8]) -> anyhow::Result<()> {
     print!(rt; "{name}: ")?;
-    let (done, flatbed) = match Session::open(rt.alloc(), Flatbed::new()) {
-        Ok(mut session) => (both(rt, &mut session, first, second), session.close()),
-        Err(NoMemory { scanner: _flatbed }) => return Err(anyhow!("no memory for a session")),
-    };
+    let mut session = Session::open(rt.alloc(), Flatbed::new()).map_err(Error::msg)?;
+    let done = both(rt, &mut session, first, second);
+    let flatbed = session.close();
     done?;
     print_pair(rt, &flatbed, PixelFormat::Gray8)?;
     print_pair(rt, &flatbed, PixelFormat::Rgb24)?;
@@ -127,47 +96,47 @@ const BEFORE: &[u8] =
     b"{\"actions\":[{\"streams\":[{\"sources\":[{\"pixelFormats\":[{\"pixelFormat\":\"rgb24\",\"attributes\":[{\"attribute\":\"resolution\",\"values\":[{\"value\":600}]}]}]}]}]}]}";
 
 fn accepted(rt: &HostRuntime) -> anyhow::Result<()> {
-    trial(rt, "empty task", BEFORE, b"{}")?;
-    trial(rt, "one action", BEFORE, b"{\"actions\":[{}]}")?;
+    trial(rt, "empty task", Some(BEFORE), b"{}")?;
+    trial(rt, "one action", Some(BEFORE), b"{\"actions\":[{}]}")?;
     trial(
         rt,
         "rgb48 in the last stream",
-        BEFORE,
+        Some(BEFORE),
         b"{\"actions\":[{\"streams\":[{\"sources\":[{\"pixelFormats\":[{\"pixelFormat\":\"rgb48\"}]}]}]}]}",
     )?;
     trial(
         rt,
         "first offered resolution",
-        b"",
+        None,
         b"{\"actions\":[{\"streams\":[{\"sources\":[{\"pixelFormats\":[{\"attributes\":[{\"attribute\":\"resolution\",\"values\":[{\"value\":70},{\"value\":80},{\"value\":100},{\"value\":150}]}]}]}]}]}]}",
     )?;
     trial(
         rt,
         "an action with another word",
-        BEFORE,
+        Some(BEFORE),
         b"{\"actions\":[{\"action\":\"encryptionReport\",\"extra\":1}]}",
     )
 }
 
 fn refused(rt: &HostRuntime) -> anyhow::Result<()> {
-    trial(rt, "no JSON", BEFORE, b"{\"actions\":[}")?;
-    trial(rt, "an array", BEFORE, b"[]")?;
+    trial(rt, "no JSON", Some(BEFORE), b"{\"actions\":[}")?;
+    trial(rt, "an array", Some(BEFORE), b"[]")?;
     trial(
         rt,
         "rgb48 with nextStream",
-        BEFORE,
+        Some(BEFORE),
         b"{\"actions\":[{\"streams\":[{\"exception\":\"nextStream\",\"sources\":[{\"pixelFormats\":[{\"pixelFormat\":\"rgb48\"}]}]}]}]}",
     )?;
     trial(
         rt,
         "feeder, then another vendor's stream",
-        BEFORE,
+        Some(BEFORE),
         b"{\"actions\":[{\"streams\":[{\"sources\":[{\"source\":\"feeder\"}]},{\"vendor\":\"com.example\"}]}]}",
     )?;
     trial(
         rt,
         "feeder with fail",
-        BEFORE,
+        Some(BEFORE),
         b"{\"actions\":[{\"streams\":[{\"exception\":\"fail\",\"sources\":[{\"source\":\"feeder\"}]}]}]}",
     )
 }
@@ -177,38 +146,36 @@ fn wrong_behaviours(rt: &HostRuntime) -> anyhow::Result<()> {
     trial(
         rt,
         "settings of a passed-over stream",
-        b"",
+        None,
         b"{\"actions\":[{\"streams\":[{\"sources\":[{\"pixelFormats\":[{\"attributes\":[{\"attribute\":\"resolution\",\"values\":[{\"value\":600}]}]}]},{\"source\":\"feeder\"}]},{\"sources\":[{\"source\":\"flatBed\"}]}]}]}",
     )?;
     trial(
         rt,
         "a later action is rejected",
-        BEFORE,
+        Some(BEFORE),
         b"{\"actions\":[{\"streams\":[{\"sources\":[{\"pixelFormats\":[{\"attributes\":[{\"attribute\":\"resolution\",\"values\":[{\"value\":150}]}]}]}]}]},{\"exception\":\"fail\",\"streams\":[{\"sources\":[{\"source\":\"feeder\"}]}]}]}",
     )?;
     trial(
         rt,
         "a closing value with ignore",
-        b"",
+        None,
         b"{\"actions\":[{\"streams\":[{\"sources\":[{\"pixelFormats\":[{\"attributes\":[{\"attribute\":\"resolution\",\"values\":[{\"value\":70,\"exception\":\"ignore\"},{\"value\":100}]}]}]}]}]}]}",
     )
 }
 
 // A task for rgb24 filled up with spaces to the length.
-fn long(heap: Global, length: usize) -> anyhow::Result<Vec<u8>> {
+fn long(heap: Global, length: usize) -> Result<Vec<u8>, AllocError> {
     let mut text = Vec::with_capacity(heap, length)?;
     text.extend_from_slice(BEFORE)?;
-    for _ in BEFORE.len()..length {
-        text.push(b' ')?;
-    }
+    text.resize(length, b' ')?;
     Ok(text)
 }
 
 fn lengths(rt: &HostRuntime) -> anyhow::Result<()> {
     let longest = long(rt.alloc(), MAX_LENGTH)?;
-    trial(rt, "65,536 bytes", b"", &longest)?;
+    trial(rt, "65,536 bytes", None, &longest)?;
     let longer = long(rt.alloc(), MAX_LENGTH + 1)?;
-    trial(rt, "65,537 bytes", b"", &longer)
+    trial(rt, "65,537 bytes", None, &longer)
 }
 
 fn run(rt: &HostRuntime) -> anyhow::Result<()> {
