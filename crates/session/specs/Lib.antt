@@ -1,4 +1,5 @@
 pub mod Complaints
 pub mod Faults
 pub mod Held
+pub mod Submitted
 pub mod Unmoved

@@ -1,6 +1,9 @@
 // The calls of a session. What it needs of memory is taken when it opens; no later call allocates.
-ghost use Rattle.std.specs.Prelude.{◌≡◌, ◌≤◌, ◌⊎◌, length, IfOk, IfErr, OnErr, OnOk};
-ghost use Rattle.session.specs.Held.{Holds};
+ghost use Rattle.std.specs.Prelude.{◌≡◌, ◌≤◌, ◌⊎◌, length, IfOk, IfErr, OnErr, OnOk, Result};
+ghost use Rattle.table.specs.Verdict.{task};
+ghost use Rattle.session.specs.Held.{Holds, items_of};
+ghost use Rattle.session.specs.Submitted.{Submitted};
+ghost use Rattle.session.specs.declared.fault.SubmitFault.{SubmitFault};
 ghost use Rattle.session.specs.Unmoved.{Unmoved};
 
 use crate::complaints::complaint;
@@ -54,10 +57,12 @@ impl<S: Scanner> Session<S> {
     }
 
     // Submits a task. An accepted one gives the scanner the plan of its last configure action; without such an action nothing changes.
+    // Which of these, or which refusal, follows from the text, the length of the table and the scanner's catalogue alone.
     pub fn submit(&mut self, text: &[u8], table: &mut [Record]) -> Result<(), SubmitFault>
         ensures same { S.catalogue self.new.scanner ≡ S.catalogue self.old.scanner }
         ensures holds { OnOk result ((Unmoved self.old self.new) ⊎ (Holds (S.catalogue self.old.scanner) (S.state self.new.scanner) self.new.kept)) }
         ensures refused { OnErr result (Unmoved self.old self.new) }
+        ensures outcome { Submitted (S.catalogue self.old.scanner) self.old.place (task text.now (length table.old)) (items_of self.old.kept) (items_of self.new.kept) result }
     {
         let used = read_task(text, &mut self.place, table)?;
         let verdict = negotiate(
@@ -90,6 +95,7 @@ impl<S: Scanner> Session<S> {
     ) -> Result<usize, OutputFault>
         ensures same { S.catalogue self.new.scanner ≡ S.catalogue self.old.scanner }
         ensures holds { Holds (S.catalogue self.old.scanner) (S.state self.new.scanner) self.new.kept }
+        ensures submitted { (r : Result (Unit {0}) SubmitFault) × Submitted (S.catalogue self.old.scanner) self.old.place (task text.now (length table.old)) (items_of self.old.kept) (items_of self.new.kept) r × OnErr r (Unmoved self.old self.new) }
         ensures within { IfOk result (λ n. n ≤ length buffer.new) }
         ensures refused { OnErr result (buffer.new ≡ buffer.old) }
     {
