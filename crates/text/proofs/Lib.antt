@@ -9,3 +9,5 @@ pub mod Judging
 pub mod Written
 pub mod Decimal
 pub mod Back
+pub mod Values
+pub mod Derived

@@ -261,10 +261,10 @@ same_letter : (c : ℕ) (cs : List ℕ) (k : List Frame) → step (literal (c �
 unfolding step
 same_letter c cs k = grind (arith, nat_tests)
 
-pub accepts_go : (k l : List Frame) (b : ℕ) (bs : List ℕ) → step k b ≡ go l → Accepts l bs → Accepts k (b ∷ bs)
+accepts_go : (k l : List Frame) (b : ℕ) (bs : List ℕ) → step k b ≡ go l → Accepts l bs → Accepts k (b ∷ bs)
 accepts_go k l b bs e a s = ap ending (run_go b bs s k l e) ∙ a (suc s)
 
-pub accepts_says : (k l : List Frame) (n : Kind) (b : ℕ) (bs : List ℕ) → step k b ≡ says n l → Accepts l bs → Accepts k (b ∷ bs)
+accepts_says : (k l : List Frame) (n : Kind) (b : ℕ) (bs : List ℕ) → step k b ≡ says n l → Accepts l bs → Accepts k (b ∷ bs)
 accepts_says k l n b bs e a s = ap ending (run_says b bs s n k l e) ∙ a (suc s)
 
 completion_letters : (cs : List ℕ) {k : List Frame} → Rest k → Completion (letters cs k)

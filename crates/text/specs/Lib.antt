@@ -11,3 +11,5 @@ pub mod Grammar
 pub mod Judged
 pub mod Canonical
 pub mod ReadsBack
+pub mod Value
+pub mod Derived

@@ -1,6 +1,8 @@
 // What is promised of texts rather than of a call.
 ghost use Rattle.std.specs.Prelude.{List};
 ghost use Rattle.text.specs.ReadsBack.{ReadsBack, WordsBack, IntegersBack, FoldsBack, Visit};
+ghost use Rattle.text.specs.Value.{WritesOne};
+ghost use Rattle.text.specs.Derived.{Derives};
 
 // What is written reads back: a canonical text is read, with the tokens, the words and the integers of its value.
 pub fn written_reads_back()
@@ -8,4 +10,11 @@ pub fn written_reads_back()
     ensures words { WordsBack }
     ensures integers { IntegersBack }
     ensures folds { FoldsBack (List Visit) }
+{}
+
+// A text without faults writes one value and no other, its tokens stand in order within the text, and it is the value that
+// the grammar gives the text.
+pub fn one_value_stands()
+    ensures one { WritesOne }
+    ensures derived { Derives }
 {}

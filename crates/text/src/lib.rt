@@ -12,7 +12,7 @@ pub mod token;
 pub mod value;
 
 pub use fault::{MAX_LENGTH, MAX_LEVELS, TextFault};
-pub use laws::written_reads_back;
+pub use laws::{one_value_stands, written_reads_back};
 pub use number::integer;
 pub use reader::Reader;
 pub use string::{spells, spells_ignoring_case};
