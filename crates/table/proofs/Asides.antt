@@ -60,7 +60,7 @@ scalar_aside literal_true p i d t ps u = refl
 scalar_aside literal_false p i d t ps u = refl
 scalar_aside literal_null p i d t ps u = refl
 
-aside_value : (v : Json) → Proper v → (d : Doing) (t : List ℕ) (ps : List Place) (u : Tape) → after t (deep 0 d ps) (events v u) ≡ after t (inside (between d ∷ ps)) u
+pub aside_value : (v : Json) → Proper v → (d : Doing) (t : List ℕ) (ps : List Place) (u : Tape) → after t (deep 0 d ps) (events v u) ≡ after t (inside (between d ∷ ps)) u
 unfolding events Proper after on_at
 aside_value (scalar x i) p d t ps u = scalar_aside x p i d t ps u
 aside_value (object i ms j) p d t ps u = deep_members ms p 0 d t ps _

@@ -1,22 +1,30 @@
 -- Laws of the verdict on a text.
-use Rattle.std.specs.Prelude.{◌≡◌, ℕ, ◌<◌, ◌≤◌, min, List, length, Ok, Err}
+use Rattle.std.specs.Prelude.{◌≡◌, ◌⊎◌, ℕ, ◌<◌, ◌≤◌, min, List, length, take, Ok, Err, Result}
 use Rattle.text.specs.declared.fault.TextFault.{TextFault}
 use Rattle.text.specs.declared.fault.TextFault.TheVariants.{TooLong}
 use Rattle.text.specs.Limits.{most_bytes}
 use Rattle.text.specs.Machine.{outcome}
+use Rattle.text.specs.Tree.{Json}
+use Rattle.text.specs.Value.{ValueOf}
+use Rattle.table.specs.declared.record.Record.{Record}
+use Rattle.table.specs.declared.fault.TableFault.{TableFault}
 use Rattle.table.specs.declared.fault.TableFault.TheVariants.{Text, Form, TooHeavy}
 use Rattle.table.specs.declared.fault.FormRule.{FormRule}
 use Rattle.table.specs.Limits.{max_weight}
 use Rattle.table.specs.Form.{Lot, failed, done}
-use Rattle.table.specs.Verdict.{form, verdict}
+use Rattle.table.specs.Task.{ActionObject}
+use Rattle.table.specs.Views.{actions_in}
+use Rattle.table.specs.Rules.{FirstBroken, Formed}
+use Rattle.table.specs.TaskOf.{task_of, weight_of}
+use Rattle.table.specs.Verdict.{form, verdict, task}
 
--- in which order the faults of a text come: too long, then a fault anywhere in the text, then the first broken rule of form, then the weight
+-- in which order the faults of a text come: too long, then a fault anywhere in the text, then a broken rule of form, then the weight
 pub record Ordered (t : List ℕ) (room : ℕ) : Type 0 where
   -- a text that is too long is refused for that, whatever else it has
   pub long_first : most_bytes < length t → verdict t room ≡ Err (Text TooLong)
   -- a fault anywhere in the text comes before any of the form
   pub text_first : (e : TextFault) → outcome t ≡ Err e → verdict t room ≡ Err (Text e)
-  -- in a text without faults the first broken rule decides
+  -- in a text without faults the broken rule at which its tokens end decides
   pub form_next : (rule : FormRule) (i : ℕ) → outcome t ≡ Ok tt → form t ≡ failed rule i → verdict t room ≡ Err (Form rule i)
   -- a task that breaks none is refused for its weight alone
   pub weight_last : (o : Lot) → outcome t ≡ Ok tt → form t ≡ done o → min max_weight room < o.weight → verdict t room ≡ Err TooHeavy
@@ -25,3 +33,55 @@ pub record Ordered (t : List ℕ) (room : ℕ) : Type 0 where
 
 abbrev pub Order : Type 0
 Order = (t : List ℕ) (room : ℕ) → Ordered t room
+
+-- What becomes of a text without faults, by the value that it writes.
+pub record ByValue (t : List ℕ) (room : ℕ) (v : Json) : Type 0 where
+  -- there is one rule that the value breaks first, or it breaks none
+  pub decided : Formed t v ⊎ ((rule : FormRule) × (i : ℕ) × FirstBroken t v rule i)
+  -- the rule that it breaks first decides
+  pub first_decides : (rule : FormRule) (i : ℕ) → FirstBroken t v rule i → verdict t room ≡ Err (Form rule i)
+  -- a value that breaks none is refused for its weight alone
+  pub heavy : Formed t v → min max_weight room < weight_of t v → verdict t room ≡ Err TooHeavy
+  -- and is read otherwise, as the task that it writes
+  pub written : Formed t v → weight_of t v ≤ min max_weight room → task t room ≡ Ok (task_of t v)
+  -- the fold over the tokens ends in the one or the other
+  pub ends : ((o : Lot) × (form t ≡ done o)) ⊎ ((rule : FormRule) × (i : ℕ) × (form t ≡ failed rule i))
+
+abbrev pub ValueDecides : Type 0
+ValueDecides = (t : List ℕ) (room : ℕ) (v : Json) → outcome t ≡ Ok tt → ValueOf t v → ByValue t room v
+
+-- a text is read: it writes a value that breaks no rule and is light enough, and this is its task
+pub record Accepted (t : List ℕ) (room : ℕ) (acts : List ActionObject) : Type 0 where
+  pub fine : outcome t ≡ Ok tt
+  pub value : Json
+  pub writes : ValueOf t value
+  pub formed : Formed t value
+  pub light : weight_of t value ≤ min max_weight room
+  pub task : acts ≡ task_of t value
+
+-- a text is refused for a rule: it writes a value that breaks this rule at this offset, and no other before it
+pub record Misformed (t : List ℕ) (rule : FormRule) (i : ℕ) : Type 0 where
+  pub fine : outcome t ≡ Ok tt
+  pub value : Json
+  pub writes : ValueOf t value
+  pub first : FirstBroken t value rule i
+
+-- a text is refused for its weight: it writes a value that breaks no rule and is too heavy
+pub record Overweight (t : List ℕ) (room : ℕ) : Type 0 where
+  pub fine : outcome t ≡ Ok tt
+  pub value : Json
+  pub writes : ValueOf t value
+  pub formed : Formed t value
+  pub heavy : min max_weight room < weight_of t value
+
+-- what becomes of a text with a table of so many records
+abbrev pub TaskJudged : List ℕ → ℕ → Result (List ActionObject) TableFault → Type 0
+TaskJudged t room (Ok acts) = Accepted t room acts
+TaskJudged t room (Err (Text e)) = outcome t ≡ Err e
+TaskJudged t room (Err (Form rule i)) = Misformed t rule i
+TaskJudged t room (Err TooHeavy) = Overweight t room
+
+-- the same of a call that read n records into the table
+abbrev pub CallJudged : List ℕ → List Record → Result ℕ TableFault → Type 0
+CallJudged t table (Ok n) = TaskJudged t (length table) (Ok (actions_in (take n table)))
+CallJudged t table (Err e) = TaskJudged t (length table) (Err e)

@@ -6,6 +6,9 @@ pub mod Drafts
 pub mod Steps
 pub mod Form
 pub mod Verdict
+pub mod Members
+pub mod Rules
+pub mod TaskOf
 pub mod Works
 pub mod Worked
 pub mod Laws

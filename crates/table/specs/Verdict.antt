@@ -19,6 +19,7 @@ abbrev pub weighed : Bool → Lot → Result (List Record) TableFault
 weighed true o = Ok o.records
 weighed false o = Err TooHeavy
 
+-- what the state at the end of a text comes to; a text without faults ends with a broken rule or with a whole task
 abbrev pub formed : ℕ → State → Result (List Record) TableFault
 formed room begins = Err TooHeavy
 formed room (inside ps) = Err TooHeavy

@@ -1,10 +1,11 @@
 -- The objects that a list of records stands for. An object's parts are what follows it, up to the next record that is not deeper.
 -- A vacant record is as shallow as the task itself, so that it ends everything.
-use Rattle.std.specs.Prelude.{ℕ, List, [], ◌∷◌, Option}
+use Rattle.std.specs.Prelude.{◌≡◌, ℕ, ◌<◌, List, [], ◌∷◌, Option}
 use Rattle.text.specs.declared.token.Placed.{Placed}
 use Rattle.names.specs.declared.kinds.Source.{Source}
 use Rattle.names.specs.declared.kinds.PixelFormat.{PixelFormat}
 use Rattle.names.specs.declared.kinds.Attribute.{Attribute}
+use Rattle.names.specs.declared.kinds.Value.{Value}
 use Rattle.table.specs.declared.record.Head.{Head}
 use Rattle.table.specs.declared.record.Verb.{Verb}
 use Rattle.table.specs.declared.record.Wanted.{Wanted}
@@ -96,3 +97,35 @@ actions_in (Record.Source h w ∷ rs) = actions_in rs
 actions_in (Record.PixelFormat h w ∷ rs) = actions_in rs
 actions_in (Record.Attribute h w ∷ rs) = actions_in rs
 actions_in (Record.Value h w ∷ rs) = actions_in rs
+
+-- how deep the object of a record lies, the task itself at 0
+abbrev pub depth : Record → ℕ
+depth Record.Vacant = 0
+depth (Record.Action h w n) = 1
+depth (Record.Stream h) = 2
+depth (Record.Source h w) = 3
+depth (Record.PixelFormat h w) = 4
+depth (Record.Attribute h w) = 5
+depth (Record.Value h w) = 6
+
+-- a view finds the objects that lie at this depth: it ends at a record that is less deep, and passes over a deeper one
+pub record Finds {X : Type 0} (n : ℕ) (view : List Record → List X) : Type 0 where
+  pub none : view [] ≡ []
+  pub ends : (r : Record) (rs : List Record) → depth r < n → view (r ∷ rs) ≡ []
+  pub passes : (r : Record) (rs : List Record) → n < depth r → view (r ∷ rs) ≡ view rs
+
+-- how to go through the objects of each level, which lie at one depth
+pub record GoThrough : Type 0 where
+  pub actions : Finds 1 actions_in
+  pub streams : Finds 2 streams_in
+  pub sources : Finds 3 sources_in
+  pub formats : Finds 4 formats_in
+  pub attributes : Finds 5 attributes_in
+  pub values : Finds 6 values_in
+  -- a record of the level is the next object, whose parts are found in what follows it
+  pub an_action : (h : Head) (w : Option (Placed Verb)) (n : ℕ) (rs : List Record) → actions_in (Record.Action h w n ∷ rs) ≡ record { head = h; word = w; entries = n; parts = streams_in rs } ∷ actions_in rs
+  pub a_stream : (h : Head) (rs : List Record) → streams_in (Record.Stream h ∷ rs) ≡ record { head = h; parts = sources_in rs } ∷ streams_in rs
+  pub a_source : (h : Head) (w : Option (Placed (Wanted Source))) (rs : List Record) → sources_in (Record.Source h w ∷ rs) ≡ record { head = h; word = w; parts = formats_in rs } ∷ sources_in rs
+  pub a_format : (h : Head) (w : Option (Placed (Wanted PixelFormat))) (rs : List Record) → formats_in (Record.PixelFormat h w ∷ rs) ≡ record { head = h; word = w; parts = attributes_in rs } ∷ formats_in rs
+  pub an_attribute : (h : Head) (w : Placed (Option Attribute)) (rs : List Record) → attributes_in (Record.Attribute h w ∷ rs) ≡ record { head = h; word = w; parts = values_in rs } ∷ attributes_in rs
+  pub a_value : (h : Head) (w : Placed (Option Value)) (rs : List Record) → values_in (Record.Value h w ∷ rs) ≡ record { head = h; word = w } ∷ values_in rs

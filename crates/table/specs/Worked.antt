@@ -11,38 +11,37 @@ abbrev pub shown : Result (List Record) TableFault → List ℕ
 shown (Ok rs) = 0 ∷ length rs ∷ []
 shown (Err e) = table_number e ∷ table_offset e ∷ []
 
--- each text with a full table
-abbrev pub come_to : List (List ℕ) → List (List ℕ)
-come_to ts = map (λ t. shown (verdict t max_weight)) ts
+-- a text, the records of its table, and what it comes to
+pub record Row : Type 0 where
+  pub text : List ℕ
+  pub room : ℕ
+  pub comes : List ℕ
+
+-- a text with a full table
+abbrev full : List ℕ → List ℕ → Row
+full t c = record { text = t; room = max_weight; comes = c }
+
+abbrev pub rows : List Row
+rows =
+    full (codes "{}") (0 ∷ 0 ∷ [])
+    ∷ full (codes "{\"actions\":[}") (11 ∷ 12 ∷ [])
+    ∷ full (codes "[]") (21 ∷ 0 ∷ [])
+    ∷ full (codes "{\"actions\":[]}") (0 ∷ 0 ∷ [])
+    ∷ full (codes "{\"actions\":[{\"action\":\"configure\"}]}") (0 ∷ 1 ∷ [])
+    ∷ full (codes "{\"a\\u0063tions\":[{\"streams\":[{}]}]}") (0 ∷ 2 ∷ [])
+    ∷ full (codes "{\"actions\":[{\"streams\":[{\"vendor\":\"x\"}]}]}") (0 ∷ 1 ∷ [])
+    ∷ full (codes "{\"streams\":[]}") (22 ∷ 1 ∷ [])
+    ∷ full (codes "{\"actions\":[7]}") (23 ∷ 12 ∷ [])
+    ∷ full (codes "{\"actions\":[{\"exception\":\"nextStream\"}]}") (23 ∷ 25 ∷ [])
+    ∷ full (codes "{\"actions\":[],\"actions\":[]}") (25 ∷ 14 ∷ [])
+    ∷ full (codes "{\"actions\":[{},{},{},{},{},{},{},{},7]}") (26 ∷ 36 ∷ [])
+    ∷ full (codes "{\"actions\":[7],") (11 ∷ 15 ∷ [])
+    -- an attribute object without its name, refused at its end
+    ∷ full (codes "{\"actions\":[{\"streams\":[{\"sources\":[{\"pixelFormats\":[{\"attributes\":[{}]}]}]}]}]}") (24 ∷ 69 ∷ [])
+    -- a skipped stream weighs too: the task weighs 7, and a table of 6 records is too small for it
+    ∷ record { text = codes "{\"actions\":[{\"streams\":[{\"vendor\":\"x\"}]}]}"; room = 7; comes = 0 ∷ 1 ∷ [] }
+    ∷ record { text = codes "{\"actions\":[{\"streams\":[{\"vendor\":\"x\"}]}]}"; room = 6; comes = 27 ∷ 0 ∷ [] }
+    ∷ []
 
 abbrev pub Worked : Type 0
-Worked =
-    come_to
-    (codes "{}"
-    ∷ codes "{\"actions\":[}"
-    ∷ codes "[]"
-    ∷ codes "{\"actions\":[]}"
-    ∷ codes "{\"actions\":[{\"action\":\"configure\"}]}"
-    ∷ codes "{\"a\\u0063tions\":[{\"streams\":[{}]}]}"
-    ∷ codes "{\"actions\":[{\"streams\":[{\"vendor\":\"x\"}]}]}"
-    ∷ codes "{\"streams\":[]}"
-    ∷ codes "{\"actions\":[7]}"
-    ∷ codes "{\"actions\":[{\"exception\":\"nextStream\"}]}"
-    ∷ codes "{\"actions\":[],\"actions\":[]}"
-    ∷ codes "{\"actions\":[{},{},{},{},{},{},{},{},7]}"
-    ∷ codes "{\"actions\":[7],"
-    ∷ [])
-    ≡ (0 ∷ 0 ∷ [])
-    ∷ (11 ∷ 12 ∷ [])
-    ∷ (21 ∷ 0 ∷ [])
-    ∷ (0 ∷ 0 ∷ [])
-    ∷ (0 ∷ 1 ∷ [])
-    ∷ (0 ∷ 2 ∷ [])
-    ∷ (0 ∷ 1 ∷ [])
-    ∷ (22 ∷ 1 ∷ [])
-    ∷ (23 ∷ 12 ∷ [])
-    ∷ (23 ∷ 25 ∷ [])
-    ∷ (25 ∷ 14 ∷ [])
-    ∷ (26 ∷ 36 ∷ [])
-    ∷ (11 ∷ 15 ∷ [])
-    ∷ []
+Worked = map (λ r. shown (verdict r.text r.room)) rows ≡ map (λ r. r.comes) rows

@@ -1,7 +1,7 @@
 // Going into an object and out again.
-ghost use Rattle.std.specs.Prelude.{◌≡◌, replicate, Some, None, slice_index_or};
+ghost use Rattle.std.specs.Prelude.{◌≡◌, Some, None, slice_index_or};
 ghost use Rattle.table.specs.Levels.{level_code};
-ghost use Rattle.table.specs.Places.{entered, restored};
+ghost use Rattle.table.specs.Places.{outside, entered, restored};
 
 use crate::level::Level;
 use crate::place::Place;
@@ -9,7 +9,7 @@ use crate::place::Place;
 impl Place {
     // Outside of every object.
     pub fn outside() -> Place
-        ensures { result.steps ≡ replicate 7 None }
+        ensures { result ≡ outside }
     {
         Place { steps: [None; 7] }
     }

@@ -1,11 +1,23 @@
 // What holds of the definitions that the contracts cite.
-ghost use Rattle.table.specs.Laws.{Order};
+ghost use Rattle.table.specs.Laws.{Order, ValueDecides};
+ghost use Rattle.table.specs.Views.{GoThrough};
 ghost use Rattle.table.specs.Worked.{Worked};
 ghost use Rattle.table.specs.Words.{KeysApart};
 
 // The order in which the faults of a text come.
 pub fn order_stands()
     ensures { Order }
+{}
+
+// The JSON value of a text without faults decides what becomes of it: the rule of form that it breaks first, its weight,
+// or the task that it writes.
+pub fn value_decides()
+    ensures { ValueDecides }
+{}
+
+// How to go through the objects that the records of a task stand for.
+pub fn records_stand()
+    ensures { GoThrough }
 {}
 
 // What some texts come to.

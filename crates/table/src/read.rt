@@ -5,7 +5,9 @@ ghost use Rattle.text.specs.Strings.{stands};
 ghost use Rattle.table.specs.Words.{key_spelled};
 ghost use Rattle.table.specs.Drafts.{with_entries};
 ghost use Rattle.table.specs.Form.{nothing, is_task};
+ghost use Rattle.table.specs.Places.{InsideOf};
 ghost use Rattle.table.specs.Verdict.{ReadsTask, HoldsTask};
+ghost use Rattle.table.specs.Laws.{CallJudged};
 ghost use Rattle.table.specs.Works.{stored, absent_if, ReadsKnown, ReadsParts, ReadsObject, Closes, Passes, at_members, at_array, at_entries, at_name};
 
 use crate::draft::Draft;
@@ -170,9 +172,10 @@ impl Reading<'_, '_> {
         self.members(inside.place, levels, draft)
     }
 
-    // The members of an object up to its end, which the reader finds.
+    // The members of an object up to its end, which the reader finds. The place record is inside the object.
     #[cycle(reading)]
     fn members(&mut self, place: &mut Place, levels: u8, draft: Draft) -> Result<(), TableFault>
+        requires inside { InsideOf place.old draft.level draft.head.index }
         ensures place { place.new ≡ place.old }
         ensures reads { (t : List ℕ) → self.old.reader.text.now ≡ t → ReadsObject t levels (at_members draft nothing) self.old self.new result }
     {
@@ -253,10 +256,12 @@ fn first_fault(text: &[u8], fault: TableFault) -> TableFault
 // Reads a text as a task into the lent table: how many records it uses. It tells the count and does not lend that part of the
 // table, since what the whole table holds afterwards is promised too.
 // A text that is too long is refused first, then one that is no JSON, then one that breaks a rule of form, then one that is too heavy.
+#[tactic(auto, using(crate::proofs::Deciding::judged_call))]
 pub fn read_task(text: &[u8], place: &mut Place, table: &mut [Record]) -> Result<usize, TableFault>
     ensures place { place.new ≡ place.old }
     ensures reads { ReadsTask text.now table.new result }
     ensures task { HoldsTask text.now table.new result }
+    ensures judged { CallJudged text.now table.new result }
 {
     pass(text, place, table).map_err(|fault| first_fault(text, fault))
 }

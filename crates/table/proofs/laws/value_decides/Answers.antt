@@ -1,0 +1,5 @@
+use Rattle.table.proofs.Deciding.{value_decides}
+use Rattle.table.proofs.laws.value_decides.Goals as goal
+
+pub returns : goal.returns
+returns c = value_decides
