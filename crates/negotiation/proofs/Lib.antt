@@ -12,3 +12,4 @@ pub mod Holding
 pub mod Offering
 pub mod Weighing
 pub mod Telling
+pub mod Lightness
