@@ -1,19 +1,20 @@
--- Worked tasks on the flatbed, one row each.
-use Rattle.std.specs.Prelude.{◌≡◌, ℕ, Bool, true, false, List, [], ◌∷◌, pos, Some, None}
-use Rattle.text.specs.declared.token.Placed.{Placed}
+-- Worked tasks on the flatbed, one row each, from the bytes of the text to the outcome.
+use Rattle.std.specs.Prelude.{◌≡◌, ℕ, Bool, true, false, List, [], ◌∷◌, pos, Some, Ok, Err, Result, codes}
+use Rattle.text.specs.declared.fault.TextFault.TheVariants.{Forbidden}
 use Rattle.names.specs.declared.kinds.Source.{Source}
 use Rattle.names.specs.declared.kinds.PixelFormat.{PixelFormat}
 use Rattle.names.specs.declared.kinds.Attribute.{Attribute}
 use Rattle.names.specs.declared.kinds.Value.TheVariants as values
-use Rattle.table.specs.declared.exception.Exception.{Exception}
-use Rattle.table.specs.declared.exception.Exception.TheVariants.{Fail, Ignore, NextStream}
+use Rattle.table.specs.declared.exception.Exception.TheVariants.{Fail, NextStream}
+use Rattle.table.specs.declared.fault.FormRule.TheVariants.{OutermostNoObject}
+use Rattle.table.specs.declared.fault.TableFault.{TableFault}
+use Rattle.table.specs.declared.fault.TableFault.TheVariants.{Text, Form}
 use Rattle.table.specs.declared.level.Level.{Level}
 use Rattle.table.specs.declared.place.Place.{Place}
-use Rattle.table.specs.declared.record.Head.{Head}
-use Rattle.table.specs.declared.record.Verb.TheVariants.{Other}
-use Rattle.table.specs.declared.record.Wanted.TheVariants.{Named}
-use Rattle.table.specs.Places.{entered}
-use Rattle.table.specs.Task.{ValueObject, SourceObject, StreamObject, ActionObject}
+use Rattle.table.specs.Limits.{max_weight}
+use Rattle.table.specs.Places.{outside, entered}
+use Rattle.table.specs.Task.{ActionObject}
+use Rattle.table.specs.Verdict.{task}
 use Rattle.scanner.specs.declared.plan.Item.{Item}
 use Rattle.scanner.specs.declared.point.Point.{Point}
 use Rattle.scanner.specs.Meaning.{Catalogue, State, powered}
@@ -22,56 +23,20 @@ use Rattle.scanners.specs.Flatbed.{flatbed_catalogue}
 use Rattle.negotiation.specs.Endings.{failing, ran_out}
 use Rattle.negotiation.specs.Verdicts.{Outcome, unchanged, planned, rejected, OneVerdict}
 
--- outside of every object
-abbrev pub outside : Place
-outside = record { steps = None ∷ None ∷ None ∷ None ∷ None ∷ None ∷ None ∷ [] }
+-- the path of an action
+abbrev action_path : ℕ → Place
+action_path i = entered outside Level.Action i
 
--- a word of the task; no offset of a word matters here
-abbrev placed : {X : Type 0} → X → Placed X
-placed x = record { value = x; offset = 0 }
+-- of the first source of the first stream of that action
+abbrev source_path : ℕ → Place
+source_path i = entered (entered (action_path i) Level.Stream 0) Level.Source 0
 
--- an object by its index and offset, without an exception of its own
-abbrev plain : ℕ → ℕ → Head
-plain i at = record { index = i; offset = at; exception = None; unknown = false }
-
--- the same with one
-abbrev under : ℕ → ℕ → Exception → Head
-under i at e = record { index = i; offset = at; exception = Some (placed e); unknown = false }
-
--- a value that is a number
-abbrev number : Head → ℕ → ValueObject
-number h n = record { head = h; word = placed (Some (values.Number (pos n))) }
-
--- no source word, no format word, and resolution with these values
-abbrev resolution : List ValueObject → SourceObject
-resolution vs = record {
-  head = plain 0 40;
-  word = None;
-  parts = record { head = plain 0 60; word = None; parts = record { head = plain 0 80; word = placed (Some Attribute.Resolution); parts = vs } ∷ [] } ∷ [];
-}
-
--- no source word and this format word
-abbrev formatted : PixelFormat → SourceObject
-formatted f = record { head = plain 0 40; word = None; parts = record { head = plain 0 60; word = Some (placed (Named f)); parts = [] } ∷ [] }
-
--- this source word alone
-abbrev from_source : Head → Source → SourceObject
-from_source h s = record { head = h; word = Some (placed (Named s)); parts = [] }
-
--- a stream with these sources
-abbrev stream : Head → List SourceObject → StreamObject
-stream h sources = record { head = h; parts = sources }
-
--- one configure action without a word, whose array of streams has so many entries
-abbrev configure : ℕ → List StreamObject → List ActionObject
-configure entries streams = record { head = plain 0 12; word = None; entries = entries; parts = streams } ∷ []
-
--- one action of another word
-abbrev another : Head → List ActionObject
-another h = record { head = h; word = Some (placed Other); entries = 0; parts = [] } ∷ []
+-- and of the first pixelFormat object of that source
+abbrev format_path : ℕ → Place
+format_path i = entered (source_path i) Level.PixelFormat 0
 
 -- resolution at gray8
-abbrev gray_point : Point
+abbrev pub gray_point : Point
 gray_point = record { source = Source.FlatBed; format = PixelFormat.Gray8; attribute = Attribute.Resolution }
 
 -- the plan of gray8 alone
@@ -82,18 +47,10 @@ gray = Item.Source Source.FlatBed ∷ Item.Pair Source.FlatBed PixelFormat.Gray8
 abbrev gray_at : ℕ → List Item
 gray_at n = Item.Source Source.FlatBed ∷ Item.Pair Source.FlatBed PixelFormat.Gray8 ∷ Item.Line gray_point (values.Number (pos n)) ∷ []
 
--- the path of a source of a stream of the first action
-abbrev source_path : ℕ → ℕ → Place
-source_path i j = entered (entered (entered outside Level.Action 0) Level.Stream i) Level.Source j
-
--- and of the first pixelFormat object of that source
-abbrev format_path : ℕ → ℕ → Place
-format_path i j = entered (source_path i j) Level.PixelFormat 0
-
--- a task, what it comes to, and what a scanner that was just switched on then holds: whether gray8 is enabled, and its resolution
+-- a text, the fault that refuses it or the outcome of its task, and what a scanner that was just switched on then holds: whether gray8 is enabled, and its resolution
 pub record Row : Type 0 where
-  pub task : List ActionObject
-  pub outcome : Outcome
+  pub text : List ℕ
+  pub result : Result Outcome TableFault
   pub gray_enabled : Bool
   pub gray_resolution : ℕ
 
@@ -101,39 +58,50 @@ pub record Row : Type 0 where
 abbrev pub worked : List Row
 worked =
     -- an empty task is accepted without change
-    record { task = []; outcome = unchanged; gray_enabled = false; gray_resolution = 300 }
+    record { text = codes "{}"; result = Ok unchanged; gray_enabled = false; gray_resolution = 300 }
+    -- a text that is no JSON is refused at its first forbidden byte
+    ∷ record { text = codes "{\"actions\":[}"; result = Err (Text (Forbidden 12)); gray_enabled = false; gray_resolution = 300 }
+    -- JSON that is no object is refused
+    ∷ record { text = codes "[]"; result = Err (Form OutermostNoObject 0); gray_enabled = false; gray_resolution = 300 }
     -- one action enables gray8
-    ∷ record { task = configure 0 []; outcome = planned gray; gray_enabled = true; gray_resolution = 300 }
+    ∷ record { text = codes "{\"actions\":[{}]}"; result = Ok (planned gray); gray_enabled = true; gray_resolution = 300 }
     -- one stream that wants rgb48 gives gray8
-    ∷ record { task = configure 1 (stream (plain 0 26) (formatted PixelFormat.Rgb48 ∷ []) ∷ []); outcome = planned gray; gray_enabled = true; gray_resolution = 300 }
+    ∷ record { text = codes "{\"actions\":[{\"streams\":[{\"sources\":[{\"pixelFormats\":[{\"pixelFormat\":\"rgb48\"}]}]}]}]}"; result = Ok (planned gray); gray_enabled = true; gray_resolution = 300 }
     -- and with nextStream on it no stream is left
-    ∷ record { task = configure 1 (stream (under 0 26 NextStream) (formatted PixelFormat.Rgb48 ∷ []) ∷ []); outcome = rejected (ran_out (record { path = format_path 0 0; offset = 60; exception = NextStream })); gray_enabled = false; gray_resolution = 300 }
+    ∷ record { text = codes "{\"actions\":[{\"streams\":[{\"exception\":\"nextStream\",\"sources\":[{\"pixelFormats\":[{\"pixelFormat\":\"rgb48\"}]}]}]}]}"; result = Ok (rejected (ran_out (record { path = format_path 0; offset = 78; exception = NextStream }))); gray_enabled = false; gray_resolution = 300 }
     -- resolution 70, 80, 100, 150 gives 100
-    ∷ record { task = configure 1 (stream (plain 0 26) (resolution (number (plain 0 100) 70 ∷ number (plain 1 110) 80 ∷ number (plain 2 120) 100 ∷ number (plain 3 130) 150 ∷ []) ∷ []) ∷ []); outcome = planned (gray_at 100); gray_enabled = true; gray_resolution = 100 }
+    ∷ record { text = codes "{\"actions\":[{\"streams\":[{\"sources\":[{\"pixelFormats\":[{\"attributes\":[{\"attribute\":\"resolution\",\"values\":[{\"value\":70},{\"value\":80},{\"value\":100},{\"value\":150}]}]}]}]}]}]}"; result = Ok (planned (gray_at 100)); gray_enabled = true; gray_resolution = 100 }
     -- resolution 70 with its own ignore, then 100, stays 300
-    ∷ record { task = configure 1 (stream (plain 0 26) (resolution (number (under 0 100 Ignore) 70 ∷ number (plain 1 110) 100 ∷ []) ∷ []) ∷ []); outcome = planned gray; gray_enabled = true; gray_resolution = 300 }
+    ∷ record { text = codes "{\"actions\":[{\"streams\":[{\"sources\":[{\"pixelFormats\":[{\"attributes\":[{\"attribute\":\"resolution\",\"values\":[{\"value\":70,\"exception\":\"ignore\"},{\"value\":100}]}]}]}]}]}]}"; result = Ok (planned gray); gray_enabled = true; gray_resolution = 300 }
     -- a stream that wants resolution 600 and then the feeder, before one that wants the flatbed, gives 300
-    ∷ record { task = configure 2 (stream (plain 0 26) (resolution (number (plain 0 100) 600 ∷ []) ∷ from_source (plain 1 140) Source.Feeder ∷ []) ∷ stream (plain 1 160) (from_source (plain 0 180) Source.FlatBed ∷ []) ∷ []); outcome = planned gray; gray_enabled = true; gray_resolution = 300 }
+    ∷ record { text = codes "{\"actions\":[{\"streams\":[{\"sources\":[{\"pixelFormats\":[{\"attributes\":[{\"attribute\":\"resolution\",\"values\":[{\"value\":600}]}]}]},{\"source\":\"feeder\"}]},{\"sources\":[{\"source\":\"flatBed\"}]}]}]}"; result = Ok (planned gray); gray_enabled = true; gray_resolution = 300 }
     -- a stream that wants the feeder, before one of another vendor, which is skipped: no stream is left
-    ∷ record { task = configure 2 (stream (plain 0 26) (from_source (plain 0 40) Source.Feeder ∷ []) ∷ []); outcome = rejected (ran_out (record { path = source_path 0 0; offset = 40; exception = NextStream })); gray_enabled = false; gray_resolution = 300 }
+    ∷ record { text = codes "{\"actions\":[{\"streams\":[{\"sources\":[{\"source\":\"feeder\"}]},{\"vendor\":\"x\"}]}]}"; result = Ok (rejected (ran_out (record { path = source_path 0; offset = 36; exception = NextStream }))); gray_enabled = false; gray_resolution = 300 }
+    -- the same with spaces and escapes, which count in the offset
+    ∷ record { text = codes "{ \"actions\": [ { \"str\\u0065ams\": [ { \"sources\": [ { \"source\": \"f\\u0065eder\" } ] }, { \"vendor\": \"x\" } ] } ] }"; result = Ok (rejected (ran_out (record { path = source_path 0; offset = 50; exception = NextStream }))); gray_enabled = false; gray_resolution = 300 }
     -- a stream that wants the feeder under fail stops, though the next would fit
-    ∷ record { task = configure 2 (stream (under 0 26 Fail) (from_source (plain 0 40) Source.Feeder ∷ []) ∷ stream (plain 1 60) [] ∷ []); outcome = rejected (failing (record { path = source_path 0 0; offset = 40; exception = Fail })); gray_enabled = false; gray_resolution = 300 }
+    ∷ record { text = codes "{\"actions\":[{\"streams\":[{\"exception\":\"fail\",\"sources\":[{\"source\":\"feeder\"}]},{}]}]}"; result = Ok (rejected (failing (record { path = source_path 0; offset = 55; exception = Fail }))); gray_enabled = false; gray_resolution = 300 }
     -- an action of another word has no effect, and under fail it decides
-    ∷ record { task = another (plain 0 12); outcome = unchanged; gray_enabled = false; gray_resolution = 300 }
-    ∷ record { task = another (under 0 12 Fail); outcome = rejected (failing (record { path = entered outside Level.Action 0; offset = 12; exception = Fail })); gray_enabled = false; gray_resolution = 300 }
+    ∷ record { text = codes "{\"actions\":[{\"action\":\"encryptionReport\"}]}"; result = Ok unchanged; gray_enabled = false; gray_resolution = 300 }
+    ∷ record { text = codes "{\"actions\":[{\"action\":\"encryptionReport\",\"exception\":\"fail\"}]}"; result = Ok (rejected (failing (record { path = action_path 0; offset = 12; exception = Fail }))); gray_enabled = false; gray_resolution = 300 }
+    -- of two actions, the one that can't be met decides
+    ∷ record { text = codes "{\"actions\":[{},{\"exception\":\"fail\",\"streams\":[{\"sources\":[{\"source\":\"feeder\"}]}]}]}"; result = Ok (rejected (failing (record { path = source_path 1; offset = 58; exception = Fail }))); gray_enabled = false; gray_resolution = 300 }
     ∷ []
 
--- what a scanner that was just switched on holds after an outcome
-abbrev pub leaves : Catalogue → Outcome → State
-leaves k unchanged = powered k
-leaves k (planned xs) = plan_put k xs
-leaves k (rejected r) = powered k
+-- what a scanner that was just switched on holds after a text was refused or its task came to an outcome
+abbrev pub leaves : Catalogue → Result Outcome TableFault → State
+leaves k (Err e) = powered k
+leaves k (Ok unchanged) = powered k
+leaves k (Ok (planned xs)) = plan_put k xs
+leaves k (Ok (rejected r)) = powered k
 
--- the task of each row comes to its outcome and to no other, and leaves its values
-abbrev pub Stand : List Row → Type 0
-Stand [] = Unit {0}
-Stand (r ∷ rs) =
-    (OneVerdict flatbed_catalogue outside r.task r.outcome
-    × ((leaves flatbed_catalogue r.outcome).enabled Source.FlatBed PixelFormat.Gray8 ≡ r.gray_enabled)
-    × ((leaves flatbed_catalogue r.outcome).current gray_point ≡ Some (values.Number (pos r.gray_resolution))))
-    × Stand rs
+-- a text is refused by this fault, or is a task that comes to this outcome and to no other
+abbrev pub ComesTo : List ℕ → Result Outcome TableFault → Type 0
+ComesTo t (Err e) = task t max_weight ≡ Err e
+ComesTo t (Ok o) = (acts : List ActionObject) × (task t max_weight ≡ Ok acts) × OneVerdict flatbed_catalogue outside acts o
+
+-- the text of a row comes to what the row says, and leaves its values
+pub record Stands (r : Row) : Type 0 where
+  pub comes : ComesTo r.text r.result
+  pub enabled : (leaves flatbed_catalogue r.result).enabled Source.FlatBed PixelFormat.Gray8 ≡ r.gray_enabled
+  pub resolution : (leaves flatbed_catalogue r.result).current gray_point ≡ Some (values.Number (pos r.gray_resolution))

@@ -1,9 +1,10 @@
-// Worked tasks on the flatbed: what each comes to by the rules.
+// Worked tasks on the flatbed: what each text comes to by the rules.
 #![tactic(auto)]
 
-ghost use Rattle.worked_tasks.specs.Worked.{Stand, worked};
+ghost use Rattle.std.specs.List.{All};
+ghost use Rattle.worked_tasks.specs.Worked.{Stands, worked};
 
-// Each task of the table comes to its outcome and to no other, and leaves its values.
+// Each text of the table is refused by its fault, or comes to its outcome and to no other, and leaves its values.
 pub fn tasks_stand()
-    ensures { Stand worked }
+    ensures { All Stands worked }
 {}
