@@ -5,7 +5,7 @@ ghost use Rattle.names.specs.Names.{name_at, names_of, place};
 ghost use Rattle.names.specs.Numbers.{numbered};
 ghost use Rattle.names.specs.Vocabulary.{Apart, Vocabulary};
 
-use text::spells;
+use text::{same, spells, unescaped};
 
 // The letters of name i; no letters where the table has no such name.
 pub fn name_at<'a>(letters: &'a [u8], starts: &[u16], i: usize) -> &'a [u8]
@@ -28,7 +28,11 @@ pub fn position(letters: &[u8], starts: &[u16], raw: &[u8]) -> Option<usize>
     ensures value { result ≡ place (stands raw.now) (names_of letters.now starts.now) }
     ensures bound { IfSome result (λ i. i + 1 < length starts.now) }
 {
-    (0..starts.len().saturating_sub(1)).find(|i| spells(raw, name_at(letters, starts, *i)))
+    let count = starts.len().saturating_sub(1);
+    if unescaped(raw) {
+        return (0..count).find(|i| same(raw, name_at(letters, starts, *i)));
+    }
+    (0..count).find(|i| spells(raw, name_at(letters, starts, *i)))
 }
 
 // The entry of a list with this number, counted from 1, or none.

@@ -19,3 +19,4 @@ pub mod Judgement
 pub mod Fillings
 pub mod Reading
 pub mod Choosing
+pub mod Called

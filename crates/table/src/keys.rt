@@ -2,12 +2,14 @@
 #![tactic(auto, unfolding(crate::specs::Words::key_letters, crate::specs::Words::key_starts))]
 
 ghost use Rattle.std.specs.Prelude.{◌≡◌, ◌<◌};
+ghost use Rattle.text.specs.Strings.{stands};
 ghost use Rattle.names.specs.Numbers.{numbered};
 ghost use Rattle.table.specs.declared.keys.Key.{Key};
 ghost use Rattle.table.specs.Levels.{key_code, is_array_name};
 ghost use Rattle.table.specs.Words.{keys, key_letters, key_starts, key_name, key_spelled, key_laws};
 
 use names::Named;
+use text::same;
 
 #[derive(Clone, Copy, PartialEq, Eq, Debug)]
 pub enum Key {
@@ -107,6 +109,38 @@ impl Key {
                 | Key::Attributes
                 | Key::Values
         )
+    }
+
+    // The one member name that the bytes can be, by how many there are and the third of them.
+    fn candidate(name: &[u8]) -> Key {
+        match (name.len(), name.get(2).copied()) {
+            (4, _) => Key::Name,
+            (5, _) => Key::Value,
+            (6, Some(b'l')) => Key::Values,
+            (6, Some(b'n')) => Key::Vendor,
+            (6, Some(b't')) => Key::Action,
+            (6, _) => Key::Source,
+            (7, Some(b't')) => Key::Actions,
+            (7, Some(b'r')) => Key::Streams,
+            (7, Some(b'u')) => Key::Sources,
+            (7, _) => Key::Comment,
+            (9, Some(b't')) => Key::Attribute,
+            (9, _) => Key::Exception,
+            (10, _) => Key::Attributes,
+            (11, _) => Key::PixelFormat,
+            _ => Key::PixelFormats,
+        }
+    }
+
+    // The member that a name spells. The one that it can be without escapes is tried before the rest.
+    pub(crate) fn called(name: &[u8]) -> Option<Key>
+        ensures { result ≡ key_spelled (stands name.now) }
+    {
+        let key = Key::candidate(name);
+        if same(name, key.name()) {
+            return Some(key);
+        }
+        Key::spelled(name)
     }
 
     // Its place among the member names.

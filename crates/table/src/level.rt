@@ -9,7 +9,6 @@ use crate::keys::Key;
 use crate::limits::{
     MAX_ACTIONS, MAX_ATTRIBUTES, MAX_PIXEL_FORMATS, MAX_SOURCES, MAX_STREAMS, MAX_VALUES,
 };
-use names::Named;
 
 #[derive(Clone, Copy, PartialEq, Eq, Debug)]
 pub enum Level {
@@ -67,7 +66,7 @@ impl Level {
     pub(crate) fn known(self, name: &[u8]) -> Option<Key>
         ensures { result ≡ known self (key_spelled (stands name.now)) }
     {
-        Key::spelled(name).filter(|key| key.is_array() || self.knows(*key))
+        Key::called(name).filter(|key| key.is_array() || self.knows(*key))
     }
 
     // How many objects of this level an array may have.

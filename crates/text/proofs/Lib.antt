@@ -11,3 +11,4 @@ pub mod Decimal
 pub mod Back
 pub mod Values
 pub mod Derived
+pub mod Literally

@@ -28,3 +28,7 @@ sign_mark b = b == 43 || b == 45
 -- after a backslash, alone: " \ / b f n r t
 abbrev pub short_escape : ℕ → Bool
 short_escape b = b == 34 || b == 92 || b == 47 || b == 98 || b == 102 || b == 110 || b == 114 || b == 116
+
+-- a character of one byte that is no quote and no backslash
+abbrev pub plain : ℕ → Bool
+plain b = between 32 33 b || between 35 91 b || between 93 127 b

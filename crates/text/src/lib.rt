@@ -15,6 +15,6 @@ pub use fault::{MAX_LENGTH, MAX_LEVELS, TextFault};
 pub use laws::{one_value_stands, written_reads_back};
 pub use number::integer;
 pub use reader::Reader;
-pub use string::{spells, spells_ignoring_case};
+pub use string::{same, spells, spells_ignoring_case, unescaped};
 pub use token::{Member, Placed, Token};
 pub use value::{check, check_length};

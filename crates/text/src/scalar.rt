@@ -1,6 +1,6 @@
 // Strings, numbers, literals and white space.
 ghost use Rattle.std.specs.Prelude.{◌≡◌, ℕ, ◌<◌, false, List, ◌∷◌, OnOk, ◌≢◌};
-ghost use Rattle.text.specs.Bytes.{white, digit};
+ghost use Rattle.text.specs.Bytes.{white, digit, plain};
 ghost use Rattle.text.specs.Machine.{Frame, Part, whole, fraction, exponent, first, digits, digit1, sign, after, chars, escape, hex, hexes, tail, tails, lead};
 ghost use Rattle.text.specs.Ahead.{Stack, Reads, ReadsTo, ReadsLetters, Onward, Inside, here, Skips, led, Leads};
 
@@ -35,6 +35,13 @@ fn is_white(b: u8) -> bool
     ensures { result ≡ white b }
 {
     matches!(b, b' ' | b'\t' | b'\n' | b'\r')
+}
+
+// A character of one byte that is no quote and no backslash.
+fn is_plain(b: u8) -> bool
+    ensures { result ≡ plain b }
+{
+    b >= 0x20 && b <= 0x7f && b != b'"' && b != b'\\'
 }
 
 impl<'a> Reader<'a> {
@@ -176,12 +183,21 @@ impl<'a> Reader<'a> {
         }
     }
 
+    // Passes the characters that stand here as they are, of one byte each.
+    fn plain(&mut self)
+        ensures { Onward (λ k. chars ∷ k) (λ k. chars ∷ k) self.old self.new }
+    {
+        self.skip(is_plain);
+    }
+
     // The characters of a string up to its closing quote, which is passed too; where that quote stands.
     pub(crate) fn characters(&mut self) -> Result<usize, TextFault>
         ensures { ReadsTo (λ k. chars ∷ k) (λ k. k) self.old self.new result }
     {
+        self.plain();
         while !self.accept(|b| b == b'"') {
             self.character()?;
+            self.plain();
         }
         Ok(self.at - 1)
     }

@@ -1,5 +1,5 @@
 // What a string stands for: its escapes resolved.
-ghost use Rattle.std.specs.Prelude.{◌≡◌, Bool, map};
+ghost use Rattle.std.specs.Prelude.{◌≡◌, Bool, true, map};
 ghost use Rattle.text.specs.declared.string.Mode.TheVariants.{Plain};
 ghost use Rattle.text.specs.Strings.{hex_value, plain_escape, unit, adds, goes, units, stands, lowered, alike, matching, Compares, Tells};
 
@@ -97,10 +97,27 @@ fn compare<F: Fn(u32, u8) -> bool>(raw: &[u8], name: &[u8], same: F) -> bool
     letters.next().is_none()
 }
 
+// Whether no backslash is among the bytes; they then stand for themselves.
+pub fn unescaped(raw: &[u8]) -> bool
+    ensures { result ≡ true → stands raw.now ≡ raw.now }
+{
+    !raw.contains(&b'\\')
+}
+
+// Whether the bytes are those of the name.
+pub fn same(raw: &[u8], name: &[u8]) -> bool
+    ensures { Tells result (raw.now ≡ name.now) }
+{
+    raw == name
+}
+
 // Whether the string with these bytes between its quotes stands for the letters of the name.
 pub fn spells(raw: &[u8], name: &[u8]) -> bool
     ensures { Tells result (stands raw.now ≡ name.now) }
 {
+    if unescaped(raw) {
+        return same(raw, name);
+    }
     compare(raw, name, |u, letter| u == u32::from(letter))
 }
 

@@ -60,6 +60,7 @@ impl<'a> Reader<'a> {
 
     // How the value begins that stands here: a scalar is read whole, of an object or an array the bracket alone.
     // The condition stays: `token` passes the white space, since the offset that it tells is the value's.
+    #[inline(always)]
     fn token_here(&mut self, levels: u8) -> Result<Token<'a>, TextFault>
         requires { Inside self.old → white (here self.old) ≡ false }
         ensures { ReadsTokenHere levels self.old self.new result }
@@ -92,6 +93,7 @@ impl<'a> Reader<'a> {
     }
 
     // The first token of the next value. `levels` tells how many more levels may be opened.
+    #[inline(always)]
     pub fn token(&mut self, levels: u8) -> Result<Placed<Token<'a>>, TextFault>
         ensures { ReadsToken levels self.old self.new result }
     {
@@ -144,6 +146,7 @@ impl<'a> Reader<'a> {
 
     // In an object: the name of its next member, past the colon, or the object's end, past the brace.
     // The caller tells whether it is the first, since a reader has a text and a position and nothing else.
+    #[inline(always)]
     pub fn member(&mut self, first: bool) -> Result<Member<'a>, TextFault>
         ensures { ReadsMember first self.old self.new result }
     {
@@ -157,6 +160,7 @@ impl<'a> Reader<'a> {
     }
 
     // The comma before a member or an entry that is not the first.
+    #[inline(always)]
     fn comma(&mut self, first: bool) -> Result<(), TextFault>
         ensures { (f : Stack) (g : Stack) → Separated first f g self.old → Reads f g self.old self.new result }
     {
@@ -167,6 +171,7 @@ impl<'a> Reader<'a> {
     }
 
     // A member's name and the colon after it.
+    #[inline(always)]
     fn name(&mut self) -> Result<Placed<&'a [u8]>, TextFault>
         ensures { ReadsName (λ d k. a_member d ∷ k) self.old self.new result }
     {
@@ -179,6 +184,7 @@ impl<'a> Reader<'a> {
     }
 
     // In an array: whether an entry follows; the array's bracket is passed where none does. The caller tells of the first here too.
+    #[inline(always)]
     pub fn entry(&mut self, first: bool) -> Result<bool, TextFault>
         ensures { ReadsEntry first self.old self.new result }
     {

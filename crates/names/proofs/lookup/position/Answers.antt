@@ -10,5 +10,14 @@ returns-clause-value c =
     let x = stands c.args.raw.now in
     let ns = names_of c.args.letters.now c.args.starts.now in
     let e = names_count c.args.letters.now c.args.starts.now in
-    place_found x ns c.saturating_sub.result c.find.result (omega arith)
-    (first_from_Range _ _ _ c.find.result (λ i. matching false x (get_or ns i []) ≡ true) (λ i. matching false x (get_or ns i []) ≡ false) c.find.ensures.ran (λ i q k. search (rules, tested)) (λ i q k. search (rules, tested)))
+    place_found x ns c.saturating_sub-count.result c.find-2.result (omega arith)
+    (first_from_Range _ _ _ c.find-2.result (λ i. matching false x (get_or ns i []) ≡ true) (λ i. matching false x (get_or ns i []) ≡ false) c.find-2.ensures.ran (λ i q k. search (rules, tested)) (λ i q k. search (rules, tested)))
+
+pub returns-then-unescaped-clause-value : goal.returns-then-unescaped-clause-value
+returns-then-unescaped-clause-value c =
+    let x = stands c.args.raw.now in
+    let ns = names_of c.args.letters.now c.args.starts.now in
+    let e = names_count c.args.letters.now c.args.starts.now in
+    let same = c.unescaped.ensures c.if-unescaped.true in
+    place_found x ns c.saturating_sub-count.result c.find.result (omega arith)
+    (first_from_Range _ _ _ c.find.result (λ i. matching false x (get_or ns i []) ≡ true) (λ i. matching false x (get_or ns i []) ≡ false) c.find.ensures.ran (λ i q k. rw same (search (rules, tested))) (λ i q k. rw same (search (rules, tested))))
