@@ -1,5 +1,5 @@
 -- What one turn more does to the chosen stream.
-use Rattle.std.proofs.Common.{◌≡◌, ℕ, true, false, ◌⊎◌, List, [], ◌∷◌, ◌++◌, Err, Result, sym, refl, ap, ◌∙◌, subst, inl, inr}
+use Rattle.std.proofs.Common.{◌≡◌, ℕ, true, false, ◌⊎◌, List, [], ◌∷◌, ◌++◌, Result, sym, refl, ap, ◌∙◌, subst, inl, inr}
 use Rattle.std.proofs.lemmas.List.{append_assoc, append-nil}
 use Rattle.std.proofs.lemmas.List.Concat.{flat_map-append}
 use Rattle.table.specs.Task.{ActionObject}
@@ -9,11 +9,10 @@ use Rattle.session.specs.declared.fault.SubmitFault.{SubmitFault}
 use Rattle.session.specs.declared.runs.Answer.{Answer}
 use Rattle.session.specs.declared.runs.Answer.TheVariants.{Submitted}
 use Rattle.session.specs.declared.runs.Turn.{Turn}
-use Rattle.session.specs.Meeting.{Stream, default_stream, IsOther, Meets}
-use Rattle.session.specs.LastConfigure.{LastConfigure, NoConfigure}
+use Rattle.negotiation.specs.Met.{Stream, default_stream, IsOther, Meets, LastConfigure, NoConfigure}
 use Rattle.session.specs.History.{Asked, asked, submit, is_restart, SinceRestart}
 use Rattle.session.specs.Submissions.{submitted_by, submitted_in, submissions, actions_where_accepted, accepted_actions, all_accepted}
-use Rattle.session.specs.Promise.{ChosenBy, Chosen}
+use Rattle.session.specs.Promise.{Chosen}
 use Rattle.session.proofs.Tasks.{all_join}
 
 -- what was submitted in a turn, by what was asked and answered

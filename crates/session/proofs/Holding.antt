@@ -8,18 +8,17 @@ use Rattle.scanner.specs.declared.plan.Item.{Item}
 use Rattle.scanner.specs.Meaning.{Catalogue, State}
 use Rattle.scanner.specs.Plan.{InForce}
 use Rattle.negotiation.specs.Plans.{default_items}
+use Rattle.negotiation.specs.Met.{Stream, default_stream, plan_of, SaysWhatIs}
 use Rattle.negotiation.specs.Verdicts.{Outcome, unchanged, planned, rejected, OneVerdict}
 use Rattle.session.specs.declared.fault.SubmitFault.{SubmitFault}
 use Rattle.session.specs.declared.fault.SubmitFault.TheVariants.{Table, Rejected}
 use Rattle.session.specs.declared.runs.Answer.TheVariants.{Submitted}
 use Rattle.session.specs.declared.runs.Turn.{Turn}
-use Rattle.session.specs.Meeting.{Stream, default_stream, plan_of}
-use Rattle.session.specs.History.{Asked, asked, submit, is_restart}
+use Rattle.session.specs.History.{asked, submit, is_restart}
 use Rattle.session.specs.Submissions.{submitted_in, actions_where_accepted, all_accepted}
 use Rattle.session.specs.Submitted.{Submitted as SubmittedTo, Tells}
 use Rattle.session.specs.Promise.{Chosen, HoldsChosen, KeepsChosen}
 use Rattle.session.proofs.Chosen.{accepted_in, chosen_opening, chosen_restart, chosen_kept, chosen_new}
-use Rattle.session.proofs.Tasks.{each_idle, sets}
 
 module _ (k : Catalogue) where
   pub holds_opening : (st : State) → InForce k (default_items k) st → HoldsChosen k [] st
@@ -46,7 +45,7 @@ module _ (k : Catalogue) where
   abbrev Chooses : List Turn → Turn → List Item → List Item → Type 0
   Chooses h t xs ys = ((ys ≡ xs) × ((s : Stream) → Chosen k h s → Chosen k (h ++ t ∷ []) s)) ⊎ ((u : Stream) × (ys ≡ plan_of k u) × ((s : Stream) → Chosen k h s → Chosen k (h ++ t ∷ []) u))
 
-  module _ (h : List Turn) (t : Turn) (text : List ℕ) (room : ℕ) (q : asked t ≡ submit text room) (xs ys : List Item) (r : Result (Unit {0}) SubmitFault) (y : t.answer ≡ Submitted r) (unmoved : (e : SubmitFault) → r ≡ Err e → ys ≡ xs) where
+  module _ (says : SaysWhatIs k) (h : List Turn) (t : Turn) (text : List ℕ) (room : ℕ) (q : asked t ≡ submit text room) (xs ys : List Item) (r : Result (Unit {0}) SubmitFault) (y : t.answer ≡ Submitted r) (unmoved : (e : SubmitFault) → r ≡ Err e → ys ≡ xs) where
     quiet : is_restart (asked t) ≡ false
     quiet = ap is_restart q
 
@@ -57,9 +56,9 @@ module _ (k : Catalogue) where
     refused e z = inl (unmoved e z, λ s c. chosen_kept k h t quiet [] (brings (Err e) (task text room) z refl) s c tt)
 
     by_outcome : (acts : List ActionObject) → task text room ≡ Ok acts → (o : Outcome) → OneVerdict k outside acts o → Tells o xs ys r → Chooses h t xs ys
-    by_outcome acts v unchanged d z = inl (z.1, λ s c. chosen_kept k h t quiet acts (brings (Ok tt) (Ok acts) z.0 v) s c (each_idle k acts d.comes).0)
+    by_outcome acts v unchanged d z = inl (z.1, λ s c. chosen_kept k h t quiet acts (brings (Ok tt) (Ok acts) z.0 v) s c ((says.outcome acts unchanged).0 d).0)
     by_outcome acts v (planned zs) d z =
-        let m = sets k acts zs d.comes in
+        let m = (says.outcome acts (planned zs)).0 d in
         inr (m.met.0, z.1 ∙ m.met.2, λ s c. chosen_new k h t quiet acts (brings (Ok tt) (Ok acts) z.0 v) s c m.action m.met.0 m.last m.met.1)
     by_outcome acts v (rejected f) d z = refused (Rejected f) z
 
@@ -78,10 +77,10 @@ module _ (k : Catalogue) where
   holds_by h t xs ys old new f same (inl c) p = record { stream = p.stream; chosen = c.1 p.stream p.chosen; in_force = subst (InForce k (plan_of k p.stream)) (sym (same c.0)) p.in_force }
   holds_by h t xs ys old new f same (inr c) p = record { stream = c.0; chosen = c.2 p.stream p.chosen; in_force = subst (λ l. InForce k l new) c.1 f }
 
-  module _ (h : List Turn) (t : Turn) (text : List ℕ) (room : ℕ) (q : asked t ≡ submit text room) (xs ys : List Item) (r : Result (Unit {0}) SubmitFault) (y : t.answer ≡ Submitted r) (unmoved : (e : SubmitFault) → r ≡ Err e → ys ≡ xs) (s : SubmittedTo k outside (task text room) xs ys r) where
+  module _ (says : SaysWhatIs k) (h : List Turn) (t : Turn) (text : List ℕ) (room : ℕ) (q : asked t ≡ submit text room) (xs ys : List Item) (r : Result (Unit {0}) SubmitFault) (y : t.answer ≡ Submitted r) (unmoved : (e : SubmitFault) → r ≡ Err e → ys ≡ xs) (s : SubmittedTo k outside (task text room) xs ys r) where
     pub keeps_submit : KeepsChosen k h xs → KeepsChosen k (h ++ t ∷ []) ys
-    keeps_submit p = keeps_by h t xs ys (chooses h t text room q xs ys r y unmoved s) p
+    keeps_submit p = keeps_by h t xs ys (chooses says h t text room q xs ys r y unmoved s) p
 
     -- the scanner's state is that of the kept plan
     pub holds_submit : (old new : State) → InForce k ys new → (ys ≡ xs → new ≡ old) → HoldsChosen k h old → HoldsChosen k (h ++ t ∷ []) new
-    holds_submit old new f same p = holds_by h t xs ys old new f same (chooses h t text room q xs ys r y unmoved s) p
+    holds_submit old new f same p = holds_by h t xs ys old new f same (chooses says h t text room q xs ys r y unmoved s) p

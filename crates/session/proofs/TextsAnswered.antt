@@ -7,13 +7,13 @@ use Rattle.table.specs.Verdict.{task}
 use Rattle.scanner.specs.declared.plan.Item.{Item}
 use Rattle.scanner.specs.Meaning.{Catalogue}
 use Rattle.negotiation.specs.declared.trouble.Rejection.{Rejection}
+use Rattle.negotiation.specs.Met.{RejectedAs, SaysWhatIs}
 use Rattle.negotiation.specs.Verdicts.{Outcome, unchanged, planned, rejected, OneVerdict}
 use Rattle.session.specs.declared.fault.SubmitFault.{SubmitFault}
 use Rattle.session.specs.declared.fault.SubmitFault.TheVariants.{Table, Rejected}
-use Rattle.session.specs.Submissions.{Submission}
 use Rattle.session.specs.Submitted.{Submitted, Tells}
-use Rattle.session.specs.Promise.{RejectedExactly, Names, TextAnswered}
-use Rattle.session.proofs.Tasks.{each_idle, sets, judged_met, judged_unmet, names}
+use Rattle.session.specs.Promise.{RejectedExactly, TextAnswered}
+use Rattle.session.proofs.Tasks.{judged_met, judged_unmet}
 
 abbrev Told : Type 0
 Told = Result (Unit {0}) SubmitFault
@@ -36,7 +36,7 @@ not_accepted r h = absurd (cc)
 told_so : (q r : Rejection) → ◌≡◌ {A = Told} (Err (Rejected q)) (Err (Rejected r)) → q ≡ r
 told_so q r h = cc
 
-module _ (k : Catalogue) (text : List ℕ) (room : ℕ) where
+module _ (k : Catalogue) (says : SaysWhatIs k) (text : List ℕ) (room : ℕ) where
   -- the text with this answer
   abbrev At : Told → Type 0
   At r = TextAnswered k (record { text = text; room = room; answer = r })
@@ -57,18 +57,18 @@ module _ (k : Catalogue) (text : List ℕ) (room : ℕ) where
         named = λ r h. not_accepted r h;
       }
 
-  turned_down : (acts : List ActionObject) (q : Rejection) → task text room ≡ Ok acts → RejectedExactly k acts (Err (Rejected q)) → Names k acts q → At (Err (Rejected q))
+  turned_down : (acts : List ActionObject) (q : Rejection) → task text room ≡ Ok acts → RejectedExactly k acts (Err (Rejected q)) → RejectedAs k acts q → At (Err (Rejected q))
   turned_down acts q v j n =
       record {
         no_task = λ f h. ok_err acts f (sym v ∙ h);
         judged = λ bs h. subst (λ l. RejectedExactly k l (Err (Rejected q))) (same_task acts bs (sym v ∙ h)) j;
-        named = λ r h. (acts, v, subst (Names k acts) (told_so q r h) n);
+        named = λ r h. (acts, v, subst (RejectedAs k acts) (told_so q r h) n);
       }
 
   by_outcome : (acts : List ActionObject) (xs ys : List Item) (r : Told) → task text room ≡ Ok acts → (o : Outcome) → OneVerdict k outside acts o → Tells o xs ys r → At r
-  by_outcome acts xs ys r v unchanged d z = subst At (sym z.0) (accepted acts v (judged_met k acts (each_idle k acts d.comes).1))
-  by_outcome acts xs ys r v (planned zs) d z = subst At (sym z.0) (accepted acts v (judged_met k acts ((sets k acts zs d.comes).all)))
-  by_outcome acts xs ys r v (rejected q) d z = subst At (sym z) (turned_down acts q v (judged_unmet k acts q d.comes) (names k acts q d.comes))
+  by_outcome acts xs ys r v unchanged d z = subst At (sym z.0) (accepted acts v (judged_met k acts ((says.outcome acts unchanged).0 d).1))
+  by_outcome acts xs ys r v (planned zs) d z = subst At (sym z.0) (accepted acts v (judged_met k acts (((says.outcome acts (planned zs)).0 d).all)))
+  by_outcome acts xs ys r v (rejected q) d z = subst At (sym z) (let n = (says.outcome acts (rejected q)).0 d in turned_down acts q v (judged_unmet k acts q n) n)
 
   by_task : (xs ys : List Item) (r : Told) (v : Result (List ActionObject) TableFault) → task text room ≡ v → Submitted k outside v xs ys r → At r
   by_task xs ys r (Ok acts) v s = by_outcome acts xs ys r v s.0 s.1 s.2

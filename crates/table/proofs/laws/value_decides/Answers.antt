@@ -1,5 +1,5 @@
-use Rattle.table.proofs.Deciding.{value_decides}
+use Rattle.table.proofs.Deciding.{value_decides, judged}
 use Rattle.table.proofs.laws.value_decides.Goals as goal
 
 pub returns : goal.returns
-returns c = value_decides
+returns c = record { decides = value_decides; judged = judged }
