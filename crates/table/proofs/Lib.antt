@@ -20,3 +20,5 @@ pub mod Fillings
 pub mod Reading
 pub mod Choosing
 pub mod Called
+pub mod Rows
+pub mod Within

@@ -85,3 +85,7 @@ TaskJudged t room (Err TooHeavy) = Overweight t room
 abbrev pub CallJudged : List ℕ → List Record → Result ℕ TableFault → Type 0
 CallJudged t table (Ok n) = TaskJudged t (length table) (Ok (actions_in (take n table)))
 CallJudged t table (Err e) = TaskJudged t (length table) (Err e)
+
+-- each text comes to one of these with every table
+abbrev pub TextsJudged : Type 0
+TextsJudged = (t : List ℕ) (room : ℕ) (x : Result (List ActionObject) TableFault) → task t room ≡ x → TaskJudged t room x

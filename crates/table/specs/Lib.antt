@@ -15,3 +15,5 @@ pub mod Laws
 pub mod Places
 pub mod Task
 pub mod Views
+pub mod Within
+pub mod Rows

@@ -8,6 +8,7 @@ ghost use Rattle.table.specs.Form.{nothing, is_task};
 ghost use Rattle.table.specs.Places.{InsideOf};
 ghost use Rattle.table.specs.Verdict.{ReadsTask, HoldsTask};
 ghost use Rattle.table.specs.Laws.{CallJudged};
+ghost use Rattle.table.specs.Within.{ReadsWithin};
 ghost use Rattle.table.specs.Works.{stored, absent_if, ReadsKnown, ReadsParts, ReadsObject, Closes, Passes, at_members, at_array, at_entries, at_name};
 
 use crate::draft::Draft;
@@ -266,6 +267,7 @@ pub fn read_task(text: &[u8], place: &mut Place, table: &mut [Record]) -> Result
     ensures reads { ReadsTask text.now table.new result }
     ensures task { HoldsTask text.now table.new result }
     ensures judged { CallJudged text.now table.new result }
+    ensures within { ReadsWithin table.new result }
 {
     one_value_stands();
     pass(text, place, table).map_err(|fault| first_fault(text, fault))

@@ -9,7 +9,7 @@ use Rattle.table.specs.Words.{key_letters, key_starts, key_names, key_spelled, e
 use Rattle.table.specs.Drafts.{taken}
 use Rattle.table.specs.Form.{given, on_name, on_at, after}
 use Rattle.table.specs.Verdict.{form, verdict}
-use Rattle.table.proofs.laws.worked_texts_stand.Goals as goal
+use Rattle.table.proofs.laws.worked_texts_come_out.Goals as goal
 
 pub returns : goal.returns
 unfolding units paired matching decimal extent value_length string_part number_part step over run tape outcome names_from names_of place letters starts source_spelled format_spelled attribute_spelled word_spelled key_letters key_starts key_names key_spelled exception_spelled vendor foreign word_meaning value_meaning taken given on_name on_at after form verdict

@@ -6,7 +6,7 @@ use Rattle.table.specs.Limits.{max_weight}
 use Rattle.table.specs.Form.{Lot, done}
 use Rattle.table.specs.Verdict.{form, verdict}
 use Rattle.table.proofs.Judgement.{text_first, form_then}
-use Rattle.table.proofs.laws.order_stands.Goals as goal
+use Rattle.table.proofs.laws.faults_come_in_order.Goals as goal
 
 heavy : (t : List ℕ) (room : ℕ) (o : Lot) → outcome t ≡ Ok tt → form t ≡ done o → min max_weight room < o.weight → verdict t room ≡ Err TooHeavy
 unfolding verdict
