@@ -27,7 +27,9 @@ pub fn value_decides()
 // A task that is read keeps the limits of arrays and numbers.
 pub fn tasks_are_within_limits()
     ensures { TasksWithin }
-{}
+{
+    one_value_stands();
+}
 
 // How to go through the objects that the records of a task stand for; the records of a task's objects show these objects.
 pub fn records_show_objects()
