@@ -1,66 +1,43 @@
 -- A list of one call, which submits a text, comes to one turn, and that answers the text.
-use Rattle.std.proofs.Common.{◌≡◌, ℕ, List, [], ◌∷◌, ◌++◌, length, Ok, Err, Result, refl, ap, ◌∙◌, subst}
-use Rattle.table.specs.declared.fault.TableFault.{TableFault}
-use Rattle.table.specs.Task.{ActionObject}
-use Rattle.table.specs.Verdict.{task}
-use Rattle.scanner.specs.Meaning.{Catalogue, State}
+use Rattle.std.proofs.Common.{◌≡◌, ℕ, List, [], ◌∷◌, ◌++◌, length, Result, refl, sym, ap, ◌∙◌, subst}
+use Rattle.scanner.specs.Meaning.{Catalogue}
 use Rattle.session.specs.declared.fault.SubmitFault.{SubmitFault}
-use Rattle.session.specs.declared.fault.SubmitFault.TheVariants.{Table}
-use Rattle.session.specs.declared.runs.Answer.{Answer}
-use Rattle.session.specs.declared.runs.Answer.TheVariants.{Submitted, Restarted, Replied, Setting, Enabled}
+use Rattle.session.specs.declared.runs.Answer.TheVariants.{Submitted}
 use Rattle.session.specs.declared.runs.Call.{Call}
 use Rattle.session.specs.declared.runs.Turn.{Turn}
-use Rattle.session.specs.Answered.{Answered, EachAnswered}
-use Rattle.session.specs.History.{asked_by, submit}
-use Rattle.session.specs.Promise.{Fair, Promise}
-use Rattle.answers.specs.Opening.{First, drew, first_drew}
-
--- the fault of a text that could not be read is its answer
-abbrev Unread : List ℕ → ℕ → Answer → Type 0
-Unread text room x = (e : TableFault) → task text room ≡ Err e → x ≡ Submitted (Err (Table e))
-
-unread : (k : Catalogue) (c : Call) (t : Turn) (text : List ℕ) (room : ℕ) → asked_by c ≡ submit text room → Answered k [] c t → Unread text room t.answer
-unread k (Call.Submit x table) t text room s a e is =
-    let same_text : x.now ≡ text = cc in
-    let same_room : length table.now ≡ room = cc in
-    a e (ap (λ y. task y (length table.now)) same_text ∙ ap (task text) same_room ∙ is)
-unread k Call.Restart t text room s a e is = absurd (cc)
-unread k (Call.Reply buffer) t text room s a e is = absurd (cc)
-unread k (Call.Setting p) t text room s a e is = absurd (cc)
-unread k (Call.Enabled o f) t text room s a e is = absurd (cc)
-
--- an answer of another kind is promised of no text
-no_other : (k : Catalogue) (text : List ℕ) (room : ℕ) (x : Answer) → ((r : Result (Unit {0}) SubmitFault) → x ≡ Submitted r → ⊥) → Unread text room x → Fair k (submit text room) x → (v : Result (List ActionObject) TableFault) → task text room ≡ v → ⊥
-no_other k text room x isnt u f (Err e) is = isnt _ (u e is)
-no_other k text room x isnt u f (Ok acts) is = let j = f.judged acts is in isnt _ (j.otherwise (λ s. isnt _ (j.rejected.1 s).1))
-
-told : (k : Catalogue) (text : List ℕ) (room : ℕ) (x : Answer) → Unread text room x → Fair k (submit text room) x → x ≡ Submitted (drew x)
-told k text room (Submitted r) u f = refl
-told k text room Restarted u f = absurd (no_other k text room Restarted (λ r h. cc) u f (task text room) refl)
-told k text room (Replied r) u f = absurd (no_other k text room (Replied r) (λ q h. cc) u f (task text room) refl)
-told k text room (Setting v) u f = absurd (no_other k text room (Setting v) (λ r h. cc) u f (task text room) refl)
-told k text room (Enabled b) u f = absurd (no_other k text room (Enabled b) (λ r h. cc) u f (task text room) refl)
+use Rattle.session.specs.Answered.{EachAnswered}
+use Rattle.session.specs.History.{asked_by, asked, submit}
+use Rattle.session.specs.Submissions.{submitted_by}
+use Rattle.session.specs.Promise.{TextAnswered}
+use Rattle.answers.specs.Opening.{drawn, FirstText, drew, first_drew}
 
 pub record OneTurn (k : Catalogue) (text : List ℕ) (room : ℕ) (ts : List Turn) : Type 0 where
   pub turn : Turn
   pub whole : ts ≡ turn ∷ []
-  pub first : First k text room turn (first_drew ts)
+  pub first : FirstText k text room turn (first_drew ts)
 
-one_turn : (k : Catalogue) (c : Call) (ts : List Turn) (text : List ℕ) (room : ℕ) (st : State) → asked_by c ≡ submit text room → EachAnswered k [] (c ∷ []) ts → Promise k ts st → OneTurn k text room ts
-one_turn k c [] text room st s e p = absurd e
-one_turn k c (t ∷ (u ∷ us)) text room st s e p = absurd e.2
-one_turn k c (t ∷ []) text room st s e p =
-    let fair : Fair k (asked_by c) t.answer = subst (λ a. Fair k a t.answer) e.0 p.fair.0 in
-    record {
-      turn = t;
-      whole = refl;
-      first = record {
-        call = c;
-        submits = s;
-        could_be = record { asked_so = e.0; answered = e.1; fair = fair };
-        told = told k text room t.answer (unread k c t text room s e.1) (subst (λ a. Fair k a t.answer) s fair);
-      };
-    }
+module _ (k : Catalogue) (text : List ℕ) (room : ℕ) where
+  -- the text as the call has it
+  as_asked : (x : List ℕ) (n : ℕ) (r : Result (Unit {0}) SubmitFault) → x ≡ text → n ≡ room → TextAnswered k (drawn x n r) → TextAnswered k (drawn text room r)
+  as_asked x n r p q a = subst (λ m. TextAnswered k (drawn text m r)) q (subst (λ z. TextAnswered k (drawn z n r)) p a)
 
-pub first_turn : (k : Catalogue) (c : Call) (none cs : List Call) (ts : List Turn) (text : List ℕ) (room : ℕ) (st : State) → none ≡ [] → cs ≡ none ++ c ∷ [] → asked_by c ≡ submit text room → EachAnswered k [] cs ts → Promise k ts st → OneTurn k text room ts
-first_turn k c none cs ts text room st empty is s e p = one_turn k c ts text room st s (subst (λ l. EachAnswered k [] l ts) (is ∙ ap (λ l. l ++ c ∷ []) empty) e) p
+  first_text : (t : Turn) (r : Result (Unit {0}) SubmitFault) → asked t ≡ submit text room → t.answer ≡ Submitted r → TextAnswered k (drawn text room r) → FirstText k text room t (drew t.answer)
+  first_text t r q y a =
+      subst (FirstText k text room t) (sym (ap drew y))
+      (record { submits = ap (λ z. submitted_by z t.answer) q ∙ ap (submitted_by (submit text room)) y; answered = a })
+
+  one_turn : (c : Call) (ts : List Turn) → asked_by c ≡ submit text room → EachAnswered k [] (c ∷ []) ts → OneTurn k text room ts
+  one_turn c [] s e = absurd e
+  one_turn c (t ∷ (u ∷ us)) s e = absurd e.1
+  one_turn (Call.Submit x table) (t ∷ []) s e =
+      let same_text : x.now ≡ text = cc in
+      let same_room : length table.now ≡ room = cc in
+      let a = e.0.answered in
+      record { turn = t; whole = refl; first = first_text t a.0 (e.0.asked_so ∙ s) a.1 (as_asked x.now (length table.now) a.0 same_text same_room a.2) }
+  one_turn Call.Restart (t ∷ []) s e = absurd (cc)
+  one_turn (Call.Reply buffer) (t ∷ []) s e = absurd (cc)
+  one_turn (Call.Setting p) (t ∷ []) s e = absurd (cc)
+  one_turn (Call.Enabled o f) (t ∷ []) s e = absurd (cc)
+
+  pub first_turn : (c : Call) (none cs : List Call) (ts : List Turn) → none ≡ [] → cs ≡ none ++ c ∷ [] → asked_by c ≡ submit text room → EachAnswered k [] cs ts → OneTurn k text room ts
+  first_turn c none cs ts empty is s e = one_turn c ts s (subst (λ l. EachAnswered k [] l ts) (is ∙ ap (λ l. l ++ c ∷ []) empty) e)

@@ -1,20 +1,21 @@
--- The first call of a session.
+-- The first text of a session.
 use Rattle.std.specs.Prelude.{◌≡◌, ℕ, List, [], ◌∷◌, Ok, Result}
 use Rattle.scanner.specs.Meaning.{Catalogue}
 use Rattle.session.specs.declared.fault.SubmitFault.{SubmitFault}
 use Rattle.session.specs.declared.runs.Answer.{Answer}
 use Rattle.session.specs.declared.runs.Answer.TheVariants.{Submitted, Restarted, Replied, Setting, Enabled}
-use Rattle.session.specs.declared.runs.Call.{Call}
 use Rattle.session.specs.declared.runs.Turn.{Turn}
-use Rattle.session.specs.Answered.{CouldBe}
-use Rattle.session.specs.History.{asked_by, submit}
+use Rattle.session.specs.Submissions.{Submission, submitted_in}
+use Rattle.session.specs.Promise.{TextAnswered}
 
--- it submitted this text with a work table of so many records, and drew this, as is promised of a new session
-pub record First (k : Catalogue) (text : List ℕ) (room : ℕ) (turn : Turn) (drew : Result (Unit {0}) SubmitFault) : Type 0 where
-  pub call : Call
-  pub submits : asked_by call ≡ submit text room
-  pub could_be : CouldBe k [] call turn
-  pub told : turn.answer ≡ Submitted drew
+-- this text, with a work table of so many records, drew this
+abbrev pub drawn : List ℕ → ℕ → Result (Unit {0}) SubmitFault → Submission
+drawn text room r = record { text = text; room = room; answer = r }
+
+-- the turn submitted the text, and the text drew what is promised of it
+pub record FirstText (k : Catalogue) (text : List ℕ) (room : ℕ) (turn : Turn) (r : Result (Unit {0}) SubmitFault) : Type 0 where
+  pub submits : submitted_in turn ≡ drawn text room r ∷ []
+  pub answered : TextAnswered k (drawn text room r)
 
 -- what a submitted text drew; no fault where none was submitted
 abbrev pub drew : Answer → Result (Unit {0}) SubmitFault

@@ -1,11 +1,11 @@
 // A text for a new session.
 ghost use Rattle.std.specs.Prelude.{◌≡◌, [], ◌∷◌, length, IfOk, IfErr, OnErr, Result};
 ghost use Rattle.answers.specs.Answering.{Answers};
-ghost use Rattle.answers.specs.Opening.{First, first_drew};
+ghost use Rattle.answers.specs.Opening.{FirstText, first_drew};
 ghost use Rattle.session.specs.declared.fault.SubmitFault.{SubmitFault};
 ghost use Rattle.session.specs.declared.runs.Turn.{Turn};
 ghost use Rattle.session.specs.Held.{items_of};
-ghost use Rattle.session.specs.Promise.{Kept, Promise};
+ghost use Rattle.session.specs.Promise.{HoldsChosen, KeepsChosen};
 
 use crate::writing::put_answer;
 use scanner::Scanner;
@@ -32,7 +32,7 @@ pub fn open_and_answer<S: Scanner>(
     buffer: &mut [u8],
 ) -> Result<(Session<S>, Result<usize, OutputFault>), NoMemory<S>>
     ensures same { IfOk result (λ x. S.catalogue x.0.scanner ≡ S.catalogue scanner) }
-    ensures answered { IfOk result (λ x. (turn : Turn) × (drew : Result (Unit {0}) SubmitFault) × First (S.catalogue scanner) text.now (length table.old) turn drew × Promise (S.catalogue scanner) (turn ∷ []) (S.state x.0.scanner) × Kept (S.catalogue scanner) (turn ∷ []) (items_of x.0.kept) × Answers drew (items_of x.0.kept) buffer.old buffer.new x.1) }
+    ensures answered { IfOk result (λ x. (turn : Turn) × (drew : Result (Unit {0}) SubmitFault) × FirstText (S.catalogue scanner) text.now (length table.old) turn drew × HoldsChosen (S.catalogue scanner) (turn ∷ []) (S.state x.0.scanner) × KeepsChosen (S.catalogue scanner) (turn ∷ []) (items_of x.0.kept) × Answers drew (items_of x.0.kept) buffer.old buffer.new x.1) }
     ensures back { IfErr result (λ e. e.scanner ≡ scanner) }
     ensures untouched { OnErr result (buffer.new ≡ buffer.old) }
 {
