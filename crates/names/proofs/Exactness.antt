@@ -2,10 +2,9 @@
 use Rattle.std.proofs.Common.{◌≡◌, ℕ, zero, suc, ◌+◌, ◌<◌, Bool, true, false, eqb, List, [], ◌∷◌, length, get_or, Some, None, Option, refl, ap, ◌∙◌, arith}
 use Rattle.std.proofs.lemmas.Bool.Decides.{nat_tests}
 use Rattle.std.specs.Option.{option_map}
-use Rattle.text.specs.Strings.{matching}
+use Rattle.text.specs.Strings.{matching, MatchesAreEqual}
 use Rattle.names.specs.Names.{later, place}
 use Rattle.names.specs.Vocabulary.{listed}
-use Rattle.names.proofs.Looking.{matched}
 
 -- the name that was found
 pub record Found (x : List ℕ) (ns : List (List ℕ)) (i : ℕ) : Type 0 where
@@ -21,16 +20,18 @@ by_later x n ns (Some j) (suc i) e h =
     let f = h i (ap (λ (m : ℕ). Some m) q) in
     record { within = omega (arith, f.within); spelt = f.spelt }
 
-by_match : (b : Bool) (x n : List ℕ) (ns : List (List ℕ)) (i : ℕ) → matching false x n ≡ b → place x (n ∷ ns) ≡ Some i → ((j : ℕ) → place x ns ≡ Some j → Found x ns j) → Found x (n ∷ ns) i
-unfolding place
-by_match true x n ns zero m e h = record { within = omega arith; spelt = matched x n m }
-by_match true x n ns (suc i) m e h = let p : Some 0 ≡ Some (suc i) = rw (place, m) at e in absurd (let z : 0 ≡ suc i = cc in omega arith)
-by_match false x n ns i m e h = let p : later (place x ns) ≡ Some i = rw (place, m) at e in by_later x n ns (place x ns) i p h
+-- units match the letters that they are, and no others
+module _ (matches : MatchesAreEqual) where
+  by_match : (b : Bool) (x n : List ℕ) (ns : List (List ℕ)) (i : ℕ) → matching false x n ≡ b → place x (n ∷ ns) ≡ Some i → ((j : ℕ) → place x ns ≡ Some j → Found x ns j) → Found x (n ∷ ns) i
+  unfolding place
+  by_match true x n ns zero m e h = record { within = omega arith; spelt = (matches x n).holds m }
+  by_match true x n ns (suc i) m e h = let p : Some 0 ≡ Some (suc i) = rw (place, m) at e in absurd (let z : 0 ≡ suc i = cc in omega arith)
+  by_match false x n ns i m e h = let p : later (place x ns) ≡ Some i = rw (place, m) at e in by_later x n ns (place x ns) i p h
 
-pub found : (x : List ℕ) (ns : List (List ℕ)) (i : ℕ) → place x ns ≡ Some i → Found x ns i
-unfolding place
-found x [] i e = absurd (let z : ◌≡◌ {A = ℕ} 0 1 = cc in omega arith)
-found x (n ∷ ns) i e = by_match (matching false x n) x n ns i refl e (found x ns)
+  pub found : (x : List ℕ) (ns : List (List ℕ)) (i : ℕ) → place x ns ≡ Some i → Found x ns i
+  unfolding place
+  found x [] i e = absurd (let z : ◌≡◌ {A = ℕ} 0 1 = cc in omega arith)
+  found x (n ∷ ns) i e = by_match (matching false x n) x n ns i refl e (found x ns)
 
 -- the codes of a list count up from a number
 abbrev pub numbered : {K : Type 0} → (K → ℕ) → ℕ → List K → Bool
@@ -46,11 +47,11 @@ code_at code n [] i d h l = absurd (omega arith)
 code_at code n (k ∷ ks) zero d h l = let e = by_number code (eqb (code k) n) n k ks refl h in omega (arith, e.0)
 code_at code n (k ∷ ks) (suc i) d h l = let e = by_number code (eqb (code k) n) n k ks refl h in let r = code_at code (suc n) ks i d e.1 (omega arith) in omega arith
 
-module _ {K : Type 0} (code : K → ℕ) (ks : List K) (d : K) (ns : List (List ℕ)) (long : length ns ≡ length ks) (count : numbered code 0 ks ≡ true) where
+module _ (matches : MatchesAreEqual) {K : Type 0} (code : K → ℕ) (ks : List K) (d : K) (ns : List (List ℕ)) (long : length ns ≡ length ks) (count : numbered code 0 ks ≡ true) where
   by_place : (o : Option ℕ) (x : List ℕ) (k : K) → place x ns ≡ o → option_map (λ i. get_or ks i d) o ≡ Some k → x ≡ get_or ns (code k) []
   by_place None x k p e = absurd (let z : ◌≡◌ {A = ℕ} 0 1 = cc in omega arith)
   by_place (Some i) x k p e =
-      let f = found x ns i p in
+      let f = found matches x ns i p in
       let g : get_or ks i d ≡ k = cc in
       let w : i < length ks = omega (arith, f.within) in
       let q = code_at code 0 ks i d count w in

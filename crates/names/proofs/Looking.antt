@@ -1,41 +1,10 @@
 -- Looking a string up among names.
-use Rattle.std.proofs.Common.{◌≡◌, ℕ, zero, suc, ◌-◌, ◌<◌, ◌≤◌, min, Bool, true, false, List, [], ◌∷◌, length, get_or, drop, Some, None, Option, sym, refl, ap, ◌∙◌, inl, inr, arith, length-drop, eq-eqb}
-use Rattle.std.proofs.lemmas.Bool.Decides.{nat_tests}
+use Rattle.std.proofs.Common.{◌≡◌, ℕ, zero, suc, ◌-◌, ◌<◌, ◌≤◌, min, true, false, List, [], ◌∷◌, length, get_or, drop, Some, None, Option, sym, refl, ap, ◌∙◌, inl, inr, arith, length-drop}
 use Rattle.std.specs.Option.{MatchOption}
 use Rattle.std.proofs.lemmas.Bool.{cases_lt}
 use Rattle.std.proofs.lemmas.List.{take_all}
-use Rattle.text.specs.Strings.{matching, alike, Tells}
-use Rattle.text.proofs.Matching.{match_true, match_false}
+use Rattle.text.specs.Strings.{matching}
 use Rattle.names.specs.Names.{part, names_from, names_of, name_at, later, place}
-
--- letters that match are the same
-by_letter : (b : Bool) (u v : ℕ) (us vs : List ℕ) → alike false u v ≡ b → matching false (u ∷ us) (v ∷ vs) ≡ true → (matching false us vs ≡ true → us ≡ vs) → u ∷ us ≡ v ∷ vs
-by_letter true u v us vs e m h =
-    let p : u ≡ v = grind (arith, nat_tests) in
-    let q = h (sym (match_true false u us v vs e) ∙ m) in
-    cc
-by_letter false u v us vs e m h = absurd (let t = match_false false u us v vs e in let z : ◌≡◌ {A = ℕ} 0 1 = cc in omega arith)
-
-pub matched : (us vs : List ℕ) → matching false us vs ≡ true → us ≡ vs
-unfolding matching
-matched [] [] e = refl
-matched [] (v ∷ vs) e = absurd (let z : ◌≡◌ {A = ℕ} 0 1 = cc in omega arith)
-matched (u ∷ us) [] e = absurd (let z : ◌≡◌ {A = ℕ} 0 1 = cc in omega arith)
-matched (u ∷ us) (v ∷ vs) e = by_letter (alike false u v) u v us vs refl e (matched us vs)
-
-pub matches_itself : (us : List ℕ) → matching false us us ≡ true
-unfolding matching
-matches_itself [] = refl
-matches_itself (u ∷ us) = match_true false u us u us (eq-eqb u u refl) ∙ matches_itself us
-
--- a test that tells whether two strings are the same is the match of their letters
-by_test : (r b : Bool) (us vs : List ℕ) → matching false us vs ≡ b → Tells r (us ≡ vs) → matching false us vs ≡ r
-by_test true b us vs e t = ap (matching false us) (sym (t.holds refl)) ∙ matches_itself us
-by_test false true us vs e t = let z : false ≡ true = t.told (matched us vs e) in absurd (let y : ◌≡◌ {A = ℕ} 0 1 = cc in omega arith)
-by_test false false us vs e t = e
-
-pub tested : (r : Bool) (us vs : List ℕ) → Tells r (us ≡ vs) → matching false us vs ≡ r
-tested r us vs t = by_test r (matching false us vs) us vs refl t
 
 -- the names of a table by their numbers
 pub name_from : (ls : List ℕ) (a : ℕ) (ss : List ℕ) (i : ℕ) → i < length ss → get_or (names_from ls a ss) i [] ≡ part ls (get_or (a ∷ ss) i 0) (get_or ss i 0)

@@ -5,7 +5,7 @@ ghost use Rattle.names.specs.Names.{name_at, names_of, place};
 ghost use Rattle.names.specs.Numbers.{numbered};
 ghost use Rattle.names.specs.Vocabulary.{Apart, Vocabulary};
 
-use text::{same, spells, unescaped};
+use text::{matches_are_equal, same, spells, unescaped};
 
 // The letters of name i; no letters where the table has no such name.
 pub fn name_at<'a>(letters: &'a [u8], starts: &[u16], i: usize) -> &'a [u8]
@@ -47,4 +47,6 @@ pub(crate) fn at_number<T: Copy>(list: &[T], number: u32) -> Option<T>
 pub fn vocabulary_stands()
     ensures apart { Apart }
     ensures exact { Vocabulary }
-{}
+{
+    matches_are_equal();
+}

@@ -5,7 +5,6 @@ use Rattle.text.specs.declared.token.Token.{Token}
 use Rattle.text.specs.Machine.{Kind, Tape, ending, event, value, begin_object, end_object, begin_array, end_array, name, string, number, literal_true, literal_false, literal_null}
 use Rattle.text.specs.Tree.{Json, Members, Entries, scalar, object, array, no_member, one_member, no_entry, one_entry, events, member_events, entry_events, Scalar, Proper, ProperMembers, ProperEntries}
 use Rattle.text.specs.Ahead.{ahead, Starts, ValueRead, kind_of}
-use Rattle.text.proofs.Frames.{same_ending}
 use Rattle.table.specs.declared.keys.Key.{Key}
 use Rattle.table.specs.declared.draft.Draft.{Draft}
 use Rattle.table.specs.declared.meaning.Meaning.{Meaning}
@@ -71,7 +70,7 @@ pub skipped : {t : List ℕ} {lv i : ℕ} {x : Token} {r s : Reader} (d : Doing)
 skipped {t} d v = record {
   same = v.passed.same;
   forth = v.passed.forth;
-  ends = λ k. ap ending (v.passed.runs k) ∙ same_ending v.what _;
+  ends = λ k. ap ending (v.passed.runs k) ∙ v.ends _;
   runs = λ k ps. ap (after t (inside (beside 0 d ∷ ps))) (v.passed.runs k) ∙ aside_value v.what v.proper d t ps _;
 }
 
@@ -95,7 +94,7 @@ pub any_value : (t : List ℕ) (key : Key) (h : Draft) (b : Lot) (lv i : ℕ) (x
 any_value t key h b lv i x r s m e f v = record {
   same = v.passed.same;
   forth = v.passed.forth;
-  ends = λ k. ap ending (v.passed.runs k) ∙ same_ending v.what _;
+  ends = λ k. ap ending (v.passed.runs k) ∙ v.ends _;
   runs = λ k ps.
       ap (after t (at_value key h b ps)) (v.passed.runs k)
       ∙ valued t key h b (kind_of x) i ps v.what (ahead s k) e v.starts

@@ -4,8 +4,7 @@ use Rattle.std.proofs.lemmas.Bool.Decides.{nat_tests}
 use Rattle.text.specs.declared.fault.TextFault.{TextFault}
 use Rattle.text.specs.Machine.{outcome}
 use Rattle.text.specs.Tree.{Json}
-use Rattle.text.specs.Value.{ValueOf}
-use Rattle.text.proofs.Values.{writes_one}
+use Rattle.text.specs.Value.{ValueOf, WritesOne}
 use Rattle.table.specs.declared.record.Record.{Record}
 use Rattle.table.specs.declared.fault.TableFault.{TableFault}
 use Rattle.table.specs.declared.fault.TableFault.TheVariants.{Text, Form, TooHeavy}
@@ -31,7 +30,7 @@ one_first rule other i k (inr (p, inl e)) (inr f) = (e, p)
 one_first rule other i k (inr (p, inr e)) (inr (q, inl f)) = (sym f, p)
 one_first rule other i k (inr (p, inr e)) (inr (q, inr f)) = (e ∙ sym f, p)
 
-module _ (t : List ℕ) (room : ℕ) (v : Json) (f : outcome t ≡ Ok tt) (w : ValueOf t v) where
+module _ (writes : WritesOne) (t : List ℕ) (room : ℕ) (v : Json) (f : outcome t ≡ Ok tt) (w : ValueOf t v) where
   said : form t ≡ resume (task_read t v) (λ o. done o)
   unfolding form
   said = ap (after t begins) w.tokens ∙ task_told v w.proper t
@@ -39,7 +38,7 @@ module _ (t : List ℕ) (room : ℕ) (v : Json) (f : outcome t ≡ Ok tt) (w : V
   -- the value breaks no rule
   module _ (o : Lot) (z : task_read t v ≡ fine o) where
     no_rule : Formed t v
-    no_rule rule i b = let h = task_hit t v (length t) ((writes_one t).ordered v w) rule i b in let e = z in let g = h.2 in absurd (cc)
+    no_rule rule i b = let h = task_hit t v (length t) ((writes t).ordered v w) rule i b in let e = z in let g = h.2 in absurd (cc)
 
     done_so : form t ≡ done o
     done_so = said ∙ rw z refl
@@ -77,7 +76,7 @@ module _ (t : List ℕ) (room : ℕ) (v : Json) (f : outcome t ≡ Ok tt) (w : V
     first_one = record {
       breaks = breaks_it;
       earliest = λ other k b.
-          let h = task_hit t v (length t) ((writes_one t).ordered v w) other k b in
+          let h = task_hit t v (length t) ((writes t).ordered v w) other k b in
           let s = same_broke (sym z ∙ h.2) in
           rw (s.0, s.1) h.3;
     }
@@ -104,33 +103,33 @@ module _ (t : List ℕ) (room : ℕ) (v : Json) (f : outcome t ≡ Ok tt) (w : V
   by_read (fine o) z = by_fine o z
   by_read (broke rule i) z = by_broke rule i z
 
-pub value_decides : ValueDecides
-value_decides t room v f w = by_read t room v f w (task_read t v) refl
+pub value_decides : WritesOne → ValueDecides
+value_decides writes t room v f w = by_read writes t room v f w (task_read t v) refl
 
 -- and each text comes to one of the four
-by_value : (t : List ℕ) (room : ℕ) (v : Json) → outcome t ≡ Ok tt → ValueOf t v → (x : Result (List ActionObject) TableFault) → task t room ≡ x → TaskJudged t room x
-by_value t room v f w x z = go ((value_decides t room v f w).decided) (leb (weight_of t v) (min max_weight room)) refl
+by_value : (writes : WritesOne) (t : List ℕ) (room : ℕ) (v : Json) → outcome t ≡ Ok tt → ValueOf t v → (x : Result (List ActionObject) TableFault) → task t room ≡ x → TaskJudged t room x
+by_value writes t room v f w x z = go ((value_decides writes t room v f w).decided) (leb (weight_of t v) (min max_weight room)) refl
   where
     b : ByValue t room v
-    b = value_decides t room v f w
+    b = value_decides writes t room v f w
 
     go : Formed t v ⊎ ((rule : FormRule) × (i : ℕ) × FirstBroken t v rule i) → (l : _) → leb (weight_of t v) (min max_weight room) ≡ l → TaskJudged t room x
     go (inl n) true e = let y = sym z ∙ b.written n (grind (arith, nat_tests)) in rw y (record { fine = f; value = v; writes = w; formed = n; light = grind (arith, nat_tests); task = refl })
     go (inl n) false e = let y = sym z ∙ ap objects (b.heavy n (grind (arith, nat_tests))) in rw y (record { fine = f; value = v; writes = w; formed = n; heavy = grind (arith, nat_tests) })
     go (inr n) l e = let y = sym z ∙ ap objects (b.first_decides n.0 n.1 n.2) in rw y (record { fine = f; value = v; writes = w; first = n.2 })
 
-by_outcome : (t : List ℕ) (room : ℕ) (r : Result (Unit {0}) TextFault) → outcome t ≡ r → (x : Result (List ActionObject) TableFault) → task t room ≡ x → TaskJudged t room x
+by_outcome : (writes : WritesOne) (t : List ℕ) (room : ℕ) (r : Result (Unit {0}) TextFault) → outcome t ≡ r → (x : Result (List ActionObject) TableFault) → task t room ≡ x → TaskJudged t room x
 unfolding verdict
-by_outcome t room (Ok u) f x z = let v = (writes_one t).some f in by_value t room v.0 f v.1 x z
-by_outcome t room (Err e) f x z = let y : task t room ≡ Err (Text e) = rw f refl in let q = sym z ∙ y in rw q f
+by_outcome writes t room (Ok u) f x z = let v = (writes t).some f in by_value writes t room v.0 f v.1 x z
+by_outcome writes t room (Err e) f x z = let y : task t room ≡ Err (Text e) = rw f refl in let q = sym z ∙ y in rw q f
 
-pub judged : (t : List ℕ) (room : ℕ) (x : Result (List ActionObject) TableFault) → task t room ≡ x → TaskJudged t room x
-judged t room x z = by_outcome t room (outcome t) refl x z
+pub judged : (writes : WritesOne) (t : List ℕ) (room : ℕ) (x : Result (List ActionObject) TableFault) → task t room ≡ x → TaskJudged t room x
+judged writes t room x z = by_outcome writes t room (outcome t) refl x z
 
-pub judged_call : (t : List ℕ) (table : List Record) (x : Result ℕ TableFault) → ReadsTask t table x → CallJudged t table x
-judged_call t table (Ok n) p = judged t (length table) _ (ap objects p.1)
-judged_call t table (Err e) p = judged t (length table) _ (ap objects p)
+pub judged_call : (writes : WritesOne) (t : List ℕ) (table : List Record) (x : Result ℕ TableFault) → ReadsTask t table x → CallJudged t table x
+judged_call writes t table (Ok n) p = judged writes t (length table) _ (ap objects p.1)
+judged_call writes t table (Err e) p = judged writes t (length table) _ (ap objects p)
 
 -- the task that is read is the one that some value writes, which is light enough
-pub task_written : (t : List ℕ) (room : ℕ) (acts : List ActionObject) → task t room ≡ Ok acts → Accepted t room acts
-task_written t room acts z = judged t room (Ok acts) z
+pub task_written : (writes : WritesOne) (t : List ℕ) (room : ℕ) (acts : List ActionObject) → task t room ≡ Ok acts → Accepted t room acts
+task_written writes t room acts z = judged writes t room (Ok acts) z

@@ -4,10 +4,9 @@ use Rattle.std.proofs.lemmas.Bool.Decides.{nat_tests}
 use Rattle.std.proofs.lemmas.List.{same_lists, get_or-take, length-take}
 use Rattle.text.specs.declared.reader.Reader.{Reader}
 use Rattle.text.specs.declared.fault.TextFault.{TextFault}
-use Rattle.text.specs.Limits.{most_bytes, most_levels}
+use Rattle.text.specs.Limits.{most_levels}
 use Rattle.text.specs.Machine.{value, ending, good, tape, outcome}
 use Rattle.text.specs.Ahead.{ahead}
-use Rattle.text.proofs.Judging.{short}
 use Rattle.table.specs.declared.record.Record.{Record}
 use Rattle.table.specs.declared.tally.Tally.{Tally}
 use Rattle.table.specs.declared.fault.TableFault.{TableFault}
@@ -23,9 +22,9 @@ unfolding tape ahead
 from_start t r a e = rw (a, e) refl
 
 -- the pass stopped at a fault
-pub refused : (t : List ℕ) (new : List Record) (r : Reader) (e : TableFault) → length t ≤ most_bytes → r.at ≡ 0 → r.text.now ≡ t → Stops t (λ k. value most_levels ∷ []) (λ ps. begins) r e → Passes t new (Err e)
+pub refused : (t : List ℕ) (new : List Record) (r : Reader) (e : TableFault) → outcome t ≡ ending (tape t) → r.at ≡ 0 → r.text.now ≡ t → Stops t (λ k. value most_levels ∷ []) (λ ps. begins) r e → Passes t new (Err e)
 unfolding form
-refused t new r (Text x) h a q s = short t h ∙ ap ending (from_start t r a q) ∙ s.in_text x refl []
+refused t new r (Text x) h a q s = h ∙ ap ending (from_start t r a q) ∙ s.in_text x refl []
 refused t new r (Form rule i) h a q s = ap (after t begins) (from_start t r a q) ∙ s.in_form rule i refl [] []
 refused t new r TooHeavy h a q s = absurd (s.light refl)
 
@@ -34,10 +33,10 @@ pub record Whole (t : List ℕ) (o : Lot) : Type 0 where
   pub fine : outcome t ≡ Ok tt
   pub says : form t ≡ done o
 
-pub finished : (t : List ℕ) (r s : Reader) (o : Lot) → length t ≤ most_bytes → r.at ≡ 0 → r.text.now ≡ t → Works t (λ k. value most_levels ∷ []) (λ k. []) (λ ps. begins) (λ ps. given o []) r s → ahead s [] ≡ good → Whole t o
+pub finished : (t : List ℕ) (r s : Reader) (o : Lot) → outcome t ≡ ending (tape t) → r.at ≡ 0 → r.text.now ≡ t → Works t (λ k. value most_levels ∷ []) (λ k. []) (λ ps. begins) (λ ps. given o []) r s → ahead s [] ≡ good → Whole t o
 unfolding form after given
 finished t r s o h a q w g = record {
-  fine = short t h ∙ ap ending (from_start t r a q) ∙ w.ends [] ∙ ap ending g;
+  fine = h ∙ ap ending (from_start t r a q) ∙ w.ends [] ∙ ap ending g;
   says = ap (after t begins) (from_start t r a q) ∙ w.runs [] [] ∙ ap (after t (done o)) g;
 }
 

@@ -62,7 +62,7 @@ impl Draft {
     }
 
     // Takes the string of a known member, which stands at `offset`.
-    #[tactic(auto, using(names::proofs::Looking::tested), unfolding(crate::specs::Drafts::taken, crate::specs::Words::foreign, crate::specs::Words::vendor))]
+    #[tactic(auto, unfolding(crate::specs::Drafts::taken, crate::specs::Words::foreign, crate::specs::Words::vendor))]
     pub(crate) fn take(&mut self, key: Key, raw: &[u8], offset: usize) -> Result<(), TableFault>
         ensures { Takes (stands raw.now) key offset self.old self.new result }
     {

@@ -20,7 +20,10 @@ use crate::meaning::Meaning;
 use crate::place::Place;
 use crate::record::Record;
 use crate::tally::Tally;
-use text::{MAX_LEVELS, Member, Placed, Reader, Token, check, check_length};
+use text::{
+    MAX_LEVELS, Member, Placed, Reader, Token, check, check_length, length_comes_first,
+    one_value_stands,
+};
 
 // A text that is being read, and the table into which its records go. The table is lent, since no call may allocate.
 #[derive(Drop)]
@@ -223,6 +226,7 @@ fn pass(text: &[u8], place: &mut Place, table: &mut [Record]) -> Result<usize, T
     ensures place { place.new ≡ place.old }
     ensures reads { Passes text.now table.new result }
 {
+    length_comes_first();
     check_length(text)?;
     let mut reading = Reading {
         reader: Reader::new(text),
@@ -264,5 +268,6 @@ pub fn read_task(text: &[u8], place: &mut Place, table: &mut [Record]) -> Result
     ensures judged { CallJudged text.now table.new result }
     ensures within { ReadsWithin table.new result }
 {
+    one_value_stands();
     pass(text, place, table).map_err(|fault| first_fault(text, fault))
 }

@@ -1,9 +1,9 @@
 -- A string without a backslash stands for its bytes.
-use Rattle.std.proofs.Common.{◌≡◌, ℕ, suc, ◌<◌, Bool, true, false, ◌||◌, ◌&&◌, eqb, List, [], ◌∷◌, get_or, sym, refl, ap, ◌∙◌, arith}
+use Rattle.std.proofs.Common.{◌≡◌, ℕ, suc, ◌<◌, Bool, true, false, ◌||◌, ◌&&◌, eqb, List, [], ◌∷◌, get_or, refl, ap, arith}
 use Rattle.std.specs.List.{list_any}
 use Rattle.std.proofs.lemmas.Bool.Decides.{nat_tests}
 use Rattle.std.proofs.lemmas.Bool.{cond-false}
-use Rattle.text.specs.Strings.{adds, goes, before, units, high, low, pair, joined, paired}
+use Rattle.text.specs.Strings.{units, high, low, joined, paired}
 use Rattle.text.specs.declared.string.Mode.TheVariants.{Plain}
 
 neither : (c d : Bool) → (c || d) ≡ false → (c ≡ false) × (d ≡ false)

@@ -1,9 +1,9 @@
 -- Units compared one by one.
 use Rattle.std.proofs.Common.{◌≡◌, ℕ, suc, ◌+◌, ◌<◌, ◌≤◌, Bool, true, false, not, ◌&&◌, eqb, List, [], ◌∷◌, map, length, get_or, drop, Some, None, Option, MatchOption, is_some, Bor, sym, refl, ap, ◌∙◌, arith, eq-eqb}
-use Rattle.std.proofs.lemmas.List.{drop_all, drop_more}
+use Rattle.std.proofs.lemmas.List.{drop_all, drop_more, map-id}
 use Rattle.std.proofs.lemmas.Bool.Decides.{nat_tests}
 use Rattle.std.proofs.lemmas.Bool.{cond-true, cond-false}
-use Rattle.text.specs.Strings.{adds, goes, before, units, high, low, pair, joined, paired, Tells, matching, alike}
+use Rattle.text.specs.Strings.{adds, goes, before, units, high, low, pair, joined, paired, Tells, matching, alike, MatchesAreEqual}
 use Rattle.text.specs.declared.string.Mode.{Mode}
 
 next : (m : Mode) (xs : List ℕ) (i : ℕ) → i < length xs → units m (drop i xs) ≡ before (adds m (get_or xs i 0)) (units (goes m (get_or xs i 0)) (drop (i + 1) xs))
@@ -74,7 +74,7 @@ by_unit f true u us vs n ns e h = match_true f u us n ns e ∙ h ∙ sym (match_
 by_unit f false u us vs n ns e h = match_false f u us n ns e ∙ sym (match_false f u vs n ns e)
 
 -- a name of bytes is matched by the units as it is by the characters
-paired_matching : (f : Bool) (us ns : List ℕ) → ((i : ℕ) → get_or ns i 0 < 256) → matching f (paired us) ns ≡ matching f us ns
+pub paired_matching : (f : Bool) (us ns : List ℕ) → ((i : ℕ) → get_or ns i 0 < 256) → matching f (paired us) ns ≡ matching f us ns
 unfolding paired matching
 paired_matching f [] ns b = refl
 paired_matching f (u ∷ us) [] b = join_matching f u (paired us) [] b
@@ -107,8 +107,24 @@ module _ (f : Bool) (g : ℕ → ℕ) (key : (u v : ℕ) → alike f u v ≡ eqb
       let t : map g us ≡ map g vs = cc in
       match_true f u us v vs (key u v ∙ eq-eqb (g u) (g v) h) ∙ keys_equal us vs t
 
+  keys_tell : (us vs : List ℕ) → Tells (matching f us vs) (map g us ≡ map g vs)
+  keys_tell us vs = record { holds = equal_keys us vs; told = keys_equal us vs }
+
   pub key_tells : (r : Bool) (us ns : List ℕ) → r ≡ matching f us ns → ((i : ℕ) → get_or ns i 0 < 256) → Tells r (map g (paired us) ≡ map g ns)
   key_tells r us ns e b = record {
     holds = λ t. equal_keys (paired us) ns (paired_matching f us ns b ∙ sym e ∙ t);
     told = λ t. e ∙ sym (paired_matching f us ns b) ∙ keys_equal (paired us) ns t;
   }
+
+-- units match letters where they are the same, and nowhere else
+pub matches_equal : MatchesAreEqual
+matches_equal us vs = let t = keys_tell false (λ x. x) (λ u v. refl) us vs in record { holds = λ e. sym (map-id us) ∙ t.holds e ∙ map-id vs; told = λ e. t.told (map-id us ∙ e ∙ sym (map-id vs)) }
+
+-- so a test that tells whether they are the same is the match of their letters
+same_answer : (r b : Bool) (P : Type 0) → Tells r P → Tells b P → r ≡ b
+same_answer true b P p q = sym (q.told (p.holds refl))
+same_answer false true P p q = p.told (q.holds refl)
+same_answer false false P p q = refl
+
+pub tested : (r : Bool) (us vs : List ℕ) → Tells r (us ≡ vs) → r ≡ matching false us vs
+tested r us vs t = same_answer r (matching false us vs) (us ≡ vs) t (matches_equal us vs)

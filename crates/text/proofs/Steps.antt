@@ -1,13 +1,15 @@
 -- How the contracts of one byte, of none and of a fault are met, and how they join.
-use Rattle.std.proofs.Common.{◌≡◌, ℕ, zero, suc, ◌+◌, ◌-◌, ◌<◌, ◌≤◌, Bool, true, false, cond, Option, Some, None, is_some, MatchOption, List, ◌∷◌, length, get_or, drop, IsErrAnd, IfOk, Ok, Err, Result, sym, refl, ap, ◌∙◌, ⊎_elim, add-one, sub-one, arith, drop-cons}
+use Rattle.std.proofs.Common.{◌≡◌, ℕ, zero, suc, ◌+◌, ◌-◌, ◌<◌, ◌≤◌, Bool, true, false, cond, eqb, ◌≢◌, Option, Some, None, is_some, MatchOption, List, ◌∷◌, length, get_or, drop, IsErrAnd, IfOk, Ok, Err, Result, sym, refl, ap, ◌∙◌, ⊎_elim, add-one, sub-one, arith, drop-cons}
 use Rattle.std.proofs.lemmas.List.{drop_all, drop_more}
-use Rattle.std.proofs.lemmas.Bool.{cases_lt, cond-true, cond-false}
+use Rattle.std.proofs.lemmas.Bool.{cases_lt, cond-true, cond-false, ne_eqb}
+use Rattle.std.proofs.lemmas.Bool.Decides.{nat_tests}
 use Rattle.text.specs.declared.reader.Reader.{Reader}
 use Rattle.text.specs.declared.fault.TextFault.{TextFault}
 use Rattle.text.specs.declared.fault.TextFault.TheVariants.{Forbidden, TooDeep}
 use Rattle.text.specs.Bytes.{white, digit}
+use Rattle.text.specs.Faults.{text_offset}
 use Rattle.text.specs.Machine.{Frame, Part, Kind, digits, after, tail, tails, hex, hexes, literal, letters, Step, go, says, forbidden, too_deep, Tape, fault, event, ending, step, over, ends, run}
-use Rattle.text.specs.Ahead.{ahead, here, Inside, Stack, Passed, Onward, Halted, Reads, Answer, ByteRead, ByteLeft, Accepts, Expects}
+use Rattle.text.specs.Ahead.{ahead, here, Inside, Stack, Passed, Onward, Halted, Reads, Blank, Answer, ByteRead, ByteLeft, Accepts, Expects, Separated, ReadsComma, CommaFails}
 
 pub run_go : (b : ℕ) (bs : List ℕ) (i : ℕ) (k l : List Frame) → step k b ≡ go l → run (b ∷ bs) i k ≡ run bs (suc i) l
 unfolding run
@@ -82,15 +84,15 @@ module _ {f g : Stack} where
 module _ {f : Stack} where
   -- the byte here is forbidden
   pub bad_here : {r : Reader} {e : TextFault} → Inside r → e ≡ Forbidden r.at → ((k : List Frame) → step (f k) (here r) ≡ forbidden) → Halted f r r e
-  bad_here {r} {e} h p b = record { same = refl; found = λ k. rw p (ap ending (ahead_forbidden r (f k) h (b k))) }
+  bad_here {r} {e} h p b = record { same = refl; stands = ap text_offset (sym p); found = λ k. rw p (ap ending (ahead_forbidden r (f k) h (b k))) }
 
   -- the end here is forbidden
   pub bad_end : {r : Reader} {e : TextFault} → length r.text.now ≤ r.at → e ≡ Forbidden r.at → ((k : List Frame) → over (f k) ≡ false) → Halted f r r e
-  bad_end {r} {e} h p b = record { same = refl; found = λ k. rw p (ap ending (ahead_end r (f k) h ∙ cond-false (over (f k)) _ _ (b k))) }
+  bad_end {r} {e} h p b = record { same = refl; stands = ap text_offset (sym p); found = λ k. rw p (ap ending (ahead_end r (f k) h ∙ cond-false (over (f k)) _ _ (b k))) }
 
   -- no level is left to open here
   pub deep_here : {r : Reader} {e : TextFault} → Inside r → e ≡ TooDeep r.at → ((k : List Frame) → step (f k) (here r) ≡ too_deep) → Halted f r r e
-  deep_here {r} {e} h p b = record { same = refl; found = λ k. rw p (ap ending (ahead_deep r (f k) h (b k))) }
+  deep_here {r} {e} h p b = record { same = refl; stands = ap text_offset (sym p); found = λ k. rw p (ap ending (ahead_deep r (f k) h (b k))) }
 
 pub stay : {f : Stack} {r : Reader} → Onward f f r r
 stay {f} {r} = record { same = refl; forth = omega arith; runs = λ k. refl }
@@ -148,6 +150,35 @@ pub expected : (f g : Stack) (p : ℕ → Bool) {test : Answer} {r s : Reader} (
 expected f g p (Ok y) q a h o = took p (λ k. forbidden) q.passed a (h q.passed.inside)
 expected f g p {r = r} (Err e) q a h o = refused p q.left.0 q.left.1 a (λ i n k. h i k ∙ cond-false (p (here r)) _ _ n) (λ _. o)
 
+differs : (a b : ℕ) → eqb a b ≡ false → a ≢ b
+differs a b e q = grind (arith, nat_tests, q)
+
+same_tests : (a b : ℕ) → a ≢ b → eqb a b ≡ false
+same_tests a b n = ne_eqb a b n
+
+-- a byte with p, and nothing else, is another one than c
+pub other_byte : (c : ℕ) {test : Answer} {r s : Reader} → ByteLeft test r s → Answers test (λ b. eqb b c) → Inside s → here s ≢ c
+other_byte c q a i = differs _ c (misses (λ b. eqb b c) q a i)
+
+-- a comma was asked for
+pub comma_read : (first : Bool) {test : Answer} {r s : Reader} (x : Result (Unit {0}) TextFault) → first ≡ false → Expects test r s x → Answers test (λ b. eqb b 44) → ReadsComma first r s x
+comma_read first {r = r} (Ok y) n q a = λ f g h. let p : Separated false f g r = rw n at h in expected f g (λ b. eqb b 44) (Ok y) q a p.0 p.1
+comma_read first (Err e) n q a = let w = q.left in (n, w.0.stays, λ i. differs _ 44 (a _ _ (w.0.fails i)), w.1)
+
+-- no comma stands where one must
+pub no_comma : (first : Bool) {f : Stack} (g : Stack) {r s : Reader} {e : TextFault} → Separated first f g r → ReadsComma first r s (Err e) → Halted f r s e
+no_comma first {f} g {r} h q =
+    let p : Separated false f g r = rw q.0 at h in
+    rw q.1 (⊎_elim (λ i. bad_here i q.3 (λ k. p.0 i k ∙ cond-false (eqb (here r) 44) _ _ (same_tests (here r) 44 (q.2 i)))) (λ i. bad_end i q.3 p.1) (cases_lt r.at (length r.text.now)))
+
+pub comma_fails : (c : ℕ) (first : Bool) {test : Answer} {r s t u : Reader} {e : TextFault} → Blank r s → ByteLeft test s t → Answers test (λ b. eqb b c) → ReadsComma first t u (Err e) → CommaFails c first r u e
+comma_fails c first {t = t} b w a q = record {
+  later = q.0;
+  blank = λ f h. rw (q.1, w.stays) (b f h);
+  neither = rw q.1 (λ i. (q.2 i, other_byte c w a i));
+  fault = rw q.1 q.3;
+}
+
 -- events do not change how a text ends
 abbrev pub SameEnding : (Tape → Tape) → Type 0
 SameEnding p = (t : Tape) → ending (p t) ≡ ending t
@@ -164,10 +195,10 @@ pub then_left : {f g : Stack} {test : Answer} {r s u : Reader} → Onward f g r 
 then_left p q = rw q.stays p
 
 pub then_halted : {f g : Stack} {r s u : Reader} {e : TextFault} → Onward f g r s → Halted g s u e → Halted f r u e
-then_halted p q = record { same = q.same ∙ p.same; found = λ k. ap ending (p.runs k) ∙ q.found k }
+then_halted p q = record { same = q.same ∙ p.same; stands = q.stands; found = λ k. ap ending (p.runs k) ∙ q.found k }
 
 pub passed_halted : {f g : Stack} {a : Tape → Tape} {r s u : Reader} {e : TextFault} → SameEnding a → Passed f g a r s → Halted g s u e → Halted f r u e
-passed_halted z p q = record { same = q.same ∙ p.same; found = λ k. ap ending (p.runs k) ∙ z _ ∙ q.found k }
+passed_halted z p q = record { same = q.same ∙ p.same; stands = q.stands; found = λ k. ap ending (p.runs k) ∙ z _ ∙ q.found k }
 
 pub then_reads : {f g : Stack} (h : Stack) {r s : Reader} (u : Reader) (x : Result (Unit {0}) TextFault) → Onward f g r s → Reads g h s u x → Reads f h r u x
 then_reads h u (Ok y) p q = then p q
@@ -185,7 +216,7 @@ broken P (Err d) b p = rw b p
 -- the exit of a `?` after what has no event
 pub broke : {f g : Stack} (h : Stack) {r s u : Reader} {e : TextFault} (x : Result (Unit {0}) TextFault) → IsErrAnd x (λ y. y ≡ e) → Onward f g r s → Halted g s u e → Reads f h r u x
 broke h (Ok y) b p q = absurd b
-broke h (Err d) b p q = let t = then_halted p q in record { same = t.same; found = λ k. rw b (t.found k) }
+broke h (Err d) b p q = let t = then_halted p q in record { same = t.same; stands = t.stands ∙ ap text_offset (sym b); found = λ k. rw b (t.found k) }
 
 pub digits_over : {r : Reader} (p : Part) → (Inside r → digit (here r) ≡ false) → Onward (λ k. digits p ∷ k) (λ k. after p ∷ k) r r
 unfolding step over
@@ -220,4 +251,4 @@ pub on : {f g : Stack} {a : Tape → Tape} {r s : Reader} (h : Stack) → Passed
 on h p = record { same = p.same; forth = p.forth; runs = λ k. p.runs (h k) }
 
 pub on_halted : {f : Stack} {r s : Reader} {e : TextFault} (h : Stack) → Halted f r s e → Halted (λ k. f (h k)) r s e
-on_halted h p = record { same = p.same; found = λ k. p.found (h k) }
+on_halted h p = record { same = p.same; stands = p.stands; found = λ k. p.found (h k) }

@@ -1,9 +1,10 @@
 -- What each call of a reader does, for every continuation: how the tape of what is left goes on.
-use Rattle.std.specs.Prelude.{◌≡◌, ℕ, ◌+◌, ◌-◌, ◌<◌, ◌≤◌, Bool, true, false, cond, List, [], ◌∷◌, ◌==◌, length, drop, Some, None, Ok, Err, Option, Result, IfOk, IfErr, slice_index}
+use Rattle.std.specs.Prelude.{◌≡◌, ℕ, ◌+◌, ◌-◌, ◌<◌, ◌≤◌, Bool, true, false, cond, List, [], ◌∷◌, ◌==◌, length, drop, Some, None, Ok, Err, Option, Result, IfOk, IfErr, slice_index, ◌⊎◌, ◌≢◌}
 use Rattle.std.specs.Borrow.{Bor}
 use Rattle.text.specs.declared.reader.Reader.{Reader}
 use Rattle.text.specs.declared.fault.TextFault.{TextFault}
 use Rattle.text.specs.declared.fault.TextFault.TheVariants.{Forbidden}
+use Rattle.text.specs.Faults.{text_offset}
 use Rattle.text.specs.declared.scalar.Lead.{Lead}
 use Rattle.text.specs.declared.token.Placed.{Placed}
 use Rattle.text.specs.declared.token.Token.{Token}
@@ -11,7 +12,7 @@ use Rattle.text.specs.declared.token.Token.TheVariants.{Object, Array, String, N
 use Rattle.text.specs.declared.token.Member.{Member}
 use Rattle.text.specs.declared.token.Member.TheVariants.{Named, End}
 use Rattle.text.specs.Bytes.{white}
-use Rattle.text.specs.Machine.{Frame, value, letters, members, entries, tail, chars, lead, over, Kind, begin_object, begin_array, end_object, end_array, name, string, number, literal_true, literal_false, literal_null, Step, go, says, forbidden, step, Tape, good, event, ending, run}
+use Rattle.text.specs.Machine.{Frame, value, letters, member, members, entries, tail, chars, lead, over, Kind, begin_object, begin_array, end_object, end_array, name, string, number, literal_true, literal_false, literal_null, Step, go, says, forbidden, step, Tape, good, event, ending, run}
 use Rattle.text.specs.Tree.{Json, Members, Entries, events, member_events, entry_events, Proper, ProperMembers, ProperEntries}
 use Rattle.text.specs.Parts.{scalar_length, value_length, string_part, number_part}
 
@@ -41,9 +42,10 @@ pub record Passed (f g : Stack) (p : Tape → Tape) (r s : Reader) : Type 0 wher
 abbrev pub Onward : Stack → Stack → Reader → Reader → Type 0
 Onward f g r s = Passed f g (λ t. t) r s
 
--- reading went from r to s, and found the fault that the text has
+-- reading went from r to s, and found at s the fault that the text has
 pub record Halted (f : Stack) (r s : Reader) (e : TextFault) : Type 0 where
   pub same : s.text ≡ r.text
+  pub stands : s.at ≡ text_offset e
   pub found : (k : List Frame) → ending (ahead r (f k)) ≡ Err e
 
 -- what has no event was read, or a fault was found
@@ -64,6 +66,10 @@ ReadsLetters cs r s (Err e) = Halted (λ k. letters cs k) r s e
 -- white space leaves the stack as it is
 abbrev pub Skips : Stack → Type 0
 Skips f = (k : List Frame) (b : ℕ) → white b ≡ true → step (f k) b ≡ go (f k)
+
+-- nothing but white space was passed
+abbrev pub Blank : Reader → Reader → Type 0
+Blank r s = (f : Stack) → Skips f → Onward f f r s
 
 -- what a test may answer to a byte
 abbrev pub Answer : Type 1
@@ -190,10 +196,10 @@ pub record TokenAt (t : List ℕ) (i j : ℕ) (x : Token) : Type 0 where
   pub holds : Holds (drop i t) x
   pub to : j ≡ i + length_of (drop i t) x
 
--- a bracket was passed, which opened one of the d levels that were left, or there was none left
+-- a bracket was passed, which opened one of the d levels that were left, or none was left
 abbrev pub Opens : ℕ → Kind → (ℕ → Stack) → Reader → Reader → Result (Unit {0}) TextFault → Type 0
 Opens d n g r s (Ok x) = (0 < d) × (s.at ≡ r.at + 1) × Passed (λ k. value d ∷ k) (g (d - 1)) (event n r.at) r s
-Opens d n g r s (Err e) = Halted (λ k. value d ∷ k) r s e
+Opens d n g r s (Err e) = (d ≡ 0) × Halted (λ k. value d ∷ k) r s e
 
 -- the first token of a value was read
 pub record TokenRead (d : ℕ) (r s : Reader) (x : Token) (i : ℕ) : Type 0 where
@@ -203,15 +209,27 @@ pub record TokenRead (d : ℕ) (r s : Reader) (x : Token) (i : ℕ) : Type 0 whe
   pub token : TokenAt r.text.now i s.at x
   pub passed : Passed (λ k. value d ∷ k) (after_token x d) (event (kind_of x) i) r s
 
+-- a bracket that opens a level stands here
+abbrev pub Bracket : Reader → Type 0
+Bracket r = Inside r × ((here r ≡ 123) ⊎ (here r ≡ 91))
+
+-- the first token of a value was not read; a bracket is at fault only where no level is left
+pub record TokenFails (d : ℕ) (r s : Reader) (e : TextFault) : Type 0 where
+  pub from : Reader
+  pub blank : Blank r from
+  pub solid : Inside from → white (here from) ≡ false
+  pub shut : Bracket from → d ≡ 0
+  pub halted : Halted (λ k. value d ∷ k) r s e
+
 -- the token that stands here, or the fault of the text
 abbrev pub ReadsTokenHere : ℕ → Reader → Reader → Result Token TextFault → Type 0
 ReadsTokenHere d r s (Ok x) = TokenRead d r s x r.at
-ReadsTokenHere d r s (Err e) = Halted (λ k. value d ∷ k) r s e
+ReadsTokenHere d r s (Err e) = (Bracket r → d ≡ 0) × Halted (λ k. value d ∷ k) r s e
 
 -- a token, or the fault of the text
 abbrev pub ReadsToken : ℕ → Reader → Reader → Result (Placed Token) TextFault → Type 0
 ReadsToken d r s (Ok p) = TokenRead d r s p.value p.offset
-ReadsToken d r s (Err e) = Halted (λ k. value d ∷ k) r s e
+ReadsToken d r s (Err e) = TokenFails d r s e
 
 -- the event of a value's first token
 abbrev pub Starts : Json → Kind → ℕ → Type 0
@@ -229,6 +247,8 @@ pub record ValueRead (d : ℕ) (r s : Reader) (x : Token) (i : ℕ) : Type 0 whe
   pub to : s.at ≡ r.at + value_length d (drop r.at r.text.now)
   pub holds : Holds (drop i r.text.now) x
   pub passed : Passed (λ k. value d ∷ k) (λ k. k) (events what) r s
+  -- the value has no fault
+  pub ends : (t : Tape) → ending (events what t) ≡ ending t
 
 -- a value, or the fault of the text
 abbrev pub ReadsValue : ℕ → Reader → Reader → Result (Placed Token) TextFault → Type 0
@@ -268,29 +288,64 @@ pub record NameRead (f : ℕ → Stack) (r s : Reader) (x : List ℕ) (i : ℕ) 
   pub holds : x ≡ string_part (drop i r.text.now)
   pub passed : (d : ℕ) → Passed (f d) (λ k. value d ∷ members false d ∷ k) (event name i) r s
 
+-- no colon after a name: the name that should stand at r is at fault itself, or something else stands after it
+pub data NameCut (r s : Reader) (e : TextFault) : Type 0 where
+  in_name : ((n : Kind) (f g : Stack) → Quotes n f g r → Halted f r s e) → NameCut r s e
+  no_colon : (q : Reader) (x : List ℕ) → StringRead r q x → Blank q s → (Inside s → here s ≢ 58) → NameCut r s e
+
+-- a member's name was not read with its colon; the fault lies before the colon
+pub record NameFails (f : ℕ → Stack) (r s : Reader) (e : TextFault) : Type 0 where
+  pub from : Reader
+  pub blank : (d : ℕ) → Onward (f d) (λ k. member d ∷ k) r from
+  pub solid : Inside from → white (here from) ≡ false
+  pub cut : NameCut from s e
+  pub halted : (d : ℕ) → Halted (f d) r s e
+
 -- a name and its colon, or the fault of the text
 abbrev pub ReadsName : (ℕ → Stack) → Reader → Reader → Result (Placed (Bor (List ℕ))) TextFault → Type 0
 ReadsName f r s (Ok p) = NameRead f r s p.value.now p.offset
-ReadsName f r s (Err e) = (d : ℕ) → Halted (f d) r s e
+ReadsName f r s (Err e) = NameFails f r s e
 
 -- at r a comma leads from f to g, and none may stand before the first
 abbrev pub Separated : Bool → Stack → Stack → Reader → Type 0
 Separated true f g r = (Inside r → (k : List Frame) → step (f k) (here r) ≡ step (g k) (here r)) × ((k : List Frame) → over (f k) ≡ over (g k))
 Separated false f g r = (Inside r → (k : List Frame) → step (f k) (here r) ≡ cond (here r == 44) (go (g k)) forbidden) × ((k : List Frame) → over (f k) ≡ false)
 
+-- a comma was passed before what is not the first, or none stands here
+abbrev pub ReadsComma : Bool → Reader → Reader → Result (Unit {0}) TextFault → Type 0
+ReadsComma first r s (Ok x) = (f g : Stack) → Separated first f g r → Onward f g r s
+ReadsComma first r s (Err e) = (first ≡ false) × (s ≡ r) × (Inside r → here r ≢ 44) × (e ≡ Forbidden r.at)
+
+-- where a comma must stand, neither it nor the closing bracket c does
+pub record CommaFails (c : ℕ) (first : Bool) (r s : Reader) (e : TextFault) : Type 0 where
+  pub later : first ≡ false
+  pub blank : Blank r s
+  pub neither : Inside s → (here s ≢ 44) × (here s ≢ c)
+  pub fault : e ≡ Forbidden s.at
+
+-- neither a member's name with its colon nor the object's end was read; the fault lies before the colon
+pub record MemberFails (first : Bool) (r s : Reader) (e : TextFault) : Type 0 where
+  pub early : CommaFails 125 first r s e ⊎ NameFails (λ d k. members first d ∷ k) r s e
+  pub halted : (d : ℕ) → Halted (λ k. members first d ∷ k) r s e
+
+-- no entry follows, and the array has no end here
+pub record EntryFails (first : Bool) (r s : Reader) (e : TextFault) : Type 0 where
+  pub early : CommaFails 93 first r s e
+  pub halted : (d : ℕ) → Halted (λ k. entries first d ∷ k) r s e
+
 -- a member's name, or the object's end, or the fault of the text
 abbrev pub ReadsMember : Bool → Reader → Reader → Result Member TextFault → Type 0
 ReadsMember first r s (Ok (Named p)) = NameRead (λ d k. members first d ∷ k) r s p.value.now p.offset
 ReadsMember first r s (Ok (End j)) = (s.at ≡ j + 1) × ((d : ℕ) → Passed (λ k. members first d ∷ k) (λ k. k) (event end_object j) r s)
-ReadsMember first r s (Err e) = (d : ℕ) → Halted (λ k. members first d ∷ k) r s e
+ReadsMember first r s (Err e) = MemberFails first r s e
 
 -- an entry follows, or the array's end was passed, or the fault of the text was found
 abbrev pub ReadsEntry : Bool → Reader → Reader → Result Bool TextFault → Type 0
 ReadsEntry first r s (Ok true) = (d : ℕ) → Onward (λ k. entries first d ∷ k) (λ k. value d ∷ entries false d ∷ k) r s
 ReadsEntry first r s (Ok false) = (j : ℕ) × (s.at ≡ j + 1) × ((d : ℕ) → Passed (λ k. entries first d ∷ k) (λ k. k) (event end_array j) r s)
-ReadsEntry first r s (Err e) = (d : ℕ) → Halted (λ k. entries first d ∷ k) r s e
+ReadsEntry first r s (Err e) = EntryFails first r s e
 
--- nothing but white space was left, or the fault of the text was found
+-- nothing but white space was left and the reader stands at the end, or the fault of the text was found
 abbrev pub Finishes : Reader → Reader → Result (Unit {0}) TextFault → Type 0
-Finishes r s (Ok x) = (s.text ≡ r.text) × (ahead r [] ≡ good)
+Finishes r s (Ok x) = (s.text ≡ r.text) × (ahead r [] ≡ good) × (s.at ≡ length r.text.now)
 Finishes r s (Err e) = Halted (λ k. []) r s e

@@ -60,3 +60,10 @@ pub record Visit : Type 0 where
   pub from : List ℕ
   pub kind : Kind
   pub offset : ℕ
+
+-- a canonical text is read as its value, in its whole and in each of its parts
+pub record WrittenReadsBack : Type 0 where
+  pub texts : ReadsBack
+  pub words : WordsBack
+  pub integers : IntegersBack
+  pub visits : FoldsBack (List Visit)

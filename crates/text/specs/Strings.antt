@@ -88,3 +88,7 @@ matching f [] [] = true
 matching f [] (v ∷ vs) = false
 matching f (u ∷ us) [] = false
 matching f (u ∷ us) (v ∷ vs) = elim (alike f u v) [ true ↦ matching f us vs | false ↦ false ]
+
+-- units match letters exactly where they are the same
+abbrev pub MatchesAreEqual : Type 0
+MatchesAreEqual = (us vs : List ℕ) → Tells (matching false us vs) (us ≡ vs)

@@ -8,7 +8,7 @@ pub const MAX_LENGTH: usize = 65536;
 // How deep objects and arrays may nest; the outermost is level 1.
 pub const MAX_LEVELS: u8 = 24;
 
-#[derive(Clone, Copy, PartialEq, Eq, Debug)]
+#[derive(Clone, Copy, Debug)]
 pub enum TextFault {
     // The byte at this offset, or the end of the text, may not stand there.
     Forbidden(usize),

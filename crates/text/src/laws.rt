@@ -1,15 +1,23 @@
 // What is promised of texts rather than of a call.
-ghost use Rattle.std.specs.Prelude.{List};
-ghost use Rattle.text.specs.ReadsBack.{ReadsBack, WordsBack, IntegersBack, FoldsBack, Visit};
+ghost use Rattle.text.specs.ReadsBack.{WrittenReadsBack};
 ghost use Rattle.text.specs.Value.{WritesOne};
+ghost use Rattle.text.specs.Length.{LengthFirst};
+ghost use Rattle.text.specs.Strings.{MatchesAreEqual};
 ghost use Rattle.text.specs.Derived.{Derives};
 
 // What is written reads back: a canonical text is read, with the tokens, the words and the integers of its value.
 pub fn written_reads_back()
-    ensures texts { ReadsBack }
-    ensures words { WordsBack }
-    ensures integers { IntegersBack }
-    ensures folds { FoldsBack (List Visit) }
+    ensures { WrittenReadsBack }
+{}
+
+// A text that is too long is refused before anything in it is looked at, and no other text is refused for its length.
+pub fn length_comes_first()
+    ensures { LengthFirst }
+{}
+
+// Units match the letters of a name exactly where they are these letters.
+pub fn matches_are_equal()
+    ensures { MatchesAreEqual }
 {}
 
 // A text without faults writes one value and no other, its tokens stand in order within the text, and it is the value that

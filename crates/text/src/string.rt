@@ -1,5 +1,5 @@
 // What a string stands for: its escapes resolved.
-ghost use Rattle.std.specs.Prelude.{◌≡◌, Bool, true, map};
+ghost use Rattle.std.specs.Prelude.{◌≡◌, Bool, true, false, map};
 ghost use Rattle.text.specs.declared.string.Mode.TheVariants.{Plain};
 ghost use Rattle.text.specs.Strings.{hex_value, plain_escape, unit, adds, goes, units, stands, lowered, alike, matching, Compares, Tells};
 
@@ -106,14 +106,16 @@ pub fn unescaped(raw: &[u8]) -> bool
 
 // Whether the bytes are those of the name.
 pub fn same(raw: &[u8], name: &[u8]) -> bool
-    ensures { Tells result (raw.now ≡ name.now) }
+    ensures tells { Tells result (raw.now ≡ name.now) }
+    ensures letters { result ≡ matching false raw.now name.now }
 {
     raw == name
 }
 
 // Whether the string with these bytes between its quotes stands for the letters of the name.
 pub fn spells(raw: &[u8], name: &[u8]) -> bool
-    ensures { Tells result (stands raw.now ≡ name.now) }
+    ensures tells { Tells result (stands raw.now ≡ name.now) }
+    ensures letters { result ≡ matching false (stands raw.now) name.now }
 {
     if unescaped(raw) {
         return same(raw, name);
@@ -123,7 +125,8 @@ pub fn spells(raw: &[u8], name: &[u8]) -> bool
 
 // The same, ASCII letters in either case.
 pub fn spells_ignoring_case(raw: &[u8], name: &[u8]) -> bool
-    ensures { Tells result (map lowered (stands raw.now) ≡ map lowered name.now) }
+    ensures tells { Tells result (map lowered (stands raw.now) ≡ map lowered name.now) }
+    ensures letters { result ≡ matching false (map lowered (stands raw.now)) (map lowered name.now) }
 {
     compare(raw, name, |u, letter| lower(u) == lower(u32::from(letter)))
 }

@@ -3,7 +3,7 @@ ghost use Rattle.std.specs.Prelude.{◌≡◌, ◌<◌, ◌≤◌, true, false, 
 ghost use Rattle.text.specs.declared.fault.TextFault.TheVariants.{TooLong};
 ghost use Rattle.text.specs.Bytes.{white, digit};
 ghost use Rattle.text.specs.Machine.{member as a_member, members, entries, begin_object, begin_array, outcome};
-ghost use Rattle.text.specs.Ahead.{Stack, Reads, Separated, Opens, Inside, here, ReadsString, ReadsNumber, ReadsToken, ReadsTokenHere, ReadsValue, ReadsMembers, ReadsEntries, ReadsName, ReadsMember, ReadsEntry, Finishes};
+ghost use Rattle.text.specs.Ahead.{ReadsComma, Opens, Inside, here, ReadsString, ReadsNumber, ReadsToken, ReadsTokenHere, ReadsValue, ReadsMembers, ReadsEntries, ReadsName, ReadsMember, ReadsEntry, Finishes};
 ghost use Rattle.text.specs.Grammar.{Text};
 ghost use Rattle.text.specs.Judged.{Judged};
 ghost use Rattle.text.specs.Limits.{most_bytes, most_levels};
@@ -162,7 +162,7 @@ impl<'a> Reader<'a> {
     // The comma before a member or an entry that is not the first.
     #[inline(always)]
     fn comma(&mut self, first: bool) -> Result<(), TextFault>
-        ensures { (f : Stack) (g : Stack) → Separated first f g self.old → Reads f g self.old self.new result }
+        ensures { ReadsComma first self.old self.new result }
     {
         if first {
             return Ok(());

@@ -1,5 +1,5 @@
 use Rattle.std.proofs.Common.{refl}
-use Rattle.text.specs.Strings.{matching}
+use Rattle.text.specs.Strings.{matching, MatchesAreEqual}
 use Rattle.names.specs.declared.kinds.Source.{Source}
 use Rattle.names.specs.declared.kinds.PixelFormat.{PixelFormat}
 use Rattle.names.specs.declared.kinds.Attribute.{Attribute}
@@ -14,14 +14,14 @@ apart : Apart
 unfolding letters starts names_from names_of place distinct matching
 apart = (refl, refl, refl, refl)
 
-vocabulary : Vocabulary
+vocabulary : MatchesAreEqual → Vocabulary
 unfolding letters starts names_from names_of place matching source_name source_spelled format_name format_spelled attribute_name attribute_spelled word_name word_spelled
-vocabulary = (
-  record { told = exact source_code sources Source.Feeder source_names refl refl; own = refl },
-  record { told = exact format_code formats PixelFormat.Bw1 format_names refl refl; own = refl },
-  record { told = exact attribute_code attributes Attribute.Alarms attribute_names refl refl; own = refl },
-  record { told = exact word_code words Word.Off word_names refl refl; own = refl },
+vocabulary matches = (
+  record { told = exact matches source_code sources Source.Feeder source_names refl refl; own = refl },
+  record { told = exact matches format_code formats PixelFormat.Bw1 format_names refl refl; own = refl },
+  record { told = exact matches attribute_code attributes Attribute.Alarms attribute_names refl refl; own = refl },
+  record { told = exact matches word_code words Word.Off word_names refl refl; own = refl },
 )
 
 pub returns : goal.returns
-returns c = record { apart = apart; exact = vocabulary }
+returns c = record { apart = apart; exact = vocabulary c.matches_are_equal.ensures }

@@ -1,7 +1,6 @@
 use Rattle.std.proofs.Common.{◌≡◌, ℕ, ◌<◌, ◌≤◌, min, true, false, leb, List, Ok, Err, sym, refl, arith}
 use Rattle.std.proofs.lemmas.Bool.Decides.{nat_tests}
 use Rattle.text.specs.Machine.{outcome}
-use Rattle.text.proofs.Judging.{long}
 use Rattle.table.specs.declared.fault.TableFault.TheVariants.{TooHeavy}
 use Rattle.table.specs.Limits.{max_weight}
 use Rattle.table.specs.Form.{Lot, done}
@@ -19,7 +18,7 @@ light t room o p q h = let e : leb o.weight (min max_weight room) ≡ true = gri
 
 pub returns : goal.returns
 returns c t room = record {
-  long_first = λ h. text_first t room _ (sym (long t h));
+  long_first = λ h. text_first t room _ (sym ((c.length_comes_first.ensures t).long h));
   text_first = λ e p. text_first t room e (sym p);
   form_next = λ rule i p q. form_then t room rule i (sym p) q;
   weight_last = heavy t room;

@@ -1,4 +1,4 @@
-use Rattle.std.proofs.Common.{sym, ap, ◌∙◌, arith, rules}
+use Rattle.std.proofs.Common.{ap, ◌∙◌, arith, rules}
 use Rattle.text.specs.Strings.{paired}
 use Rattle.text.proofs.Literally.{plain_units, plain_paired}
 use Rattle.text.proofs.string.unescaped.Goals as goal

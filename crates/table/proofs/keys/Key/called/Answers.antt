@@ -5,4 +5,4 @@ use Rattle.table.proofs.Called.{own_name}
 use Rattle.table.proofs.keys.Key.called.Goals as goal
 
 pub returns-then-same : goal.returns-then-same
-returns-then-same c = sym (ap (λ x. key_spelled (stands x)) (c.same.ensures.holds c.if-same.true ∙ c.name.ensures) ∙ own_name _)
+returns-then-same c = sym (ap (λ x. key_spelled (stands x)) (c.same.ensures.tells.holds c.if-same.true ∙ c.name.ensures) ∙ own_name _)

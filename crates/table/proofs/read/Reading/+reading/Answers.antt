@@ -31,7 +31,7 @@ pub entries-loop-self-init : goal.entries-loop-self-init
 entries-loop-self-init t c = record { place = refl; bound = omega arith; reads = λ x h q. parts_none c.args.self.now }
 
 pub entries-returns-in_err-entry-clause-reads : goal.entries-returns-in_err-entry-clause-reads
-entries-returns-in_err-entry-clause-reads t c x h q = broken (ReadsParts x _ _ _ _ _ _) _ c.from_residual.ensures.1 (parts_stops (c.loop-self.invariant.reads x h q) (λ m. text_stops (c.in_err-entry.ensures c.args.levels)))
+entries-returns-in_err-entry-clause-reads t c x h q = broken (ReadsParts x _ _ _ _ _ _) _ c.from_residual.ensures.1 (parts_stops (c.loop-self.invariant.reads x h q) (λ m. text_stops (c.in_err-entry.ensures.halted c.args.levels)))
 
 pub entries-returns-in_err-entry-2-clause-reads : goal.entries-returns-in_err-entry-2-clause-reads
 entries-returns-in_err-entry-2-clause-reads t c x h q =
@@ -146,7 +146,7 @@ pub members-loop-name-init : goal.members-loop-name-init
 members-loop-name-init t c = record { place = refl; level = refl; reads = λ x q. parts_none _ }
 
 pub members-returns-in_err-name-clause-reads : goal.members-returns-in_err-name-clause-reads
-members-returns-in_err-name-clause-reads t c x q = broken (ReadsObject x _ _ _ _) _ c.from_residual.ensures.1 (parts_stops (c.loop-name.invariant.reads x q) (λ m. text_stops (c.in_err-name.ensures c.args.levels)) nothing)
+members-returns-in_err-name-clause-reads t c x q = broken (ReadsObject x _ _ _ _) _ c.from_residual.ensures.1 (parts_stops (c.loop-name.invariant.reads x q) (λ m. text_stops (c.in_err-name.ensures.halted c.args.levels)) nothing)
 
 pub members-returns-in_err-member-in-Named-clause-reads : goal.members-returns-in_err-member-in-Named-clause-reads
 members-returns-in_err-member-in-Named-clause-reads t c x q =

@@ -50,7 +50,7 @@ unfolding entry_events ProperEntries
 array-loop-self-init t c = (no_entry, stay, tt)
 
 pub array-returns-in_err-entry : goal.array-returns-in_err-entry
-array-returns-in_err-entry t c = broken (ReadsEntries _ _ _) _ c.from_residual.ensures.1 (passed_halted (same_ending_entries c.loop-self.invariant.0) c.loop-self.invariant.1 (c.in_err-entry.ensures c.args.levels))
+array-returns-in_err-entry t c = broken (ReadsEntries _ _ _) _ c.from_residual.ensures.1 (passed_halted (same_ending_entries c.loop-self.invariant.0) c.loop-self.invariant.1 (c.in_err-entry.ensures.halted c.args.levels))
 
 pub array-returns-in_err-value : goal.array-returns-in_err-value
 array-returns-in_err-value t c = broken (ReadsEntries _ _ _) _ c.from_residual-in_err-value.ensures.1 (passed_halted (same_ending_entries c.loop-self.invariant.0) (then_passed c.loop-self.invariant.1 (entry_goes _ _ _ _ c.if-branch.true c.in_ok-entry.ensures c.args.levels)) (on_halted (λ k. entries false c.args.levels ∷ k) c.in_err-value.ensures))
@@ -71,7 +71,7 @@ unfolding member_events ProperMembers
 object-loop-self-init t c = (no_member, stay, tt)
 
 pub object-returns-in_err-member : goal.object-returns-in_err-member
-object-returns-in_err-member t c = broken (ReadsMembers _ _ _) _ c.from_residual.ensures.1 (passed_halted (same_ending_members c.loop-self.invariant.0) c.loop-self.invariant.1 (c.in_err-member.ensures c.args.levels))
+object-returns-in_err-member t c = broken (ReadsMembers _ _ _) _ c.from_residual.ensures.1 (passed_halted (same_ending_members c.loop-self.invariant.0) c.loop-self.invariant.1 (c.in_err-member.ensures.halted c.args.levels))
 
 pub object-returns-in_err-value : goal.object-returns-in_err-value
 object-returns-in_err-value t c =
@@ -91,11 +91,11 @@ object-returns t c =
 
 object_whole : (d : ℕ) (r s u : Reader) (i : ℕ) → TokenRead d r s Object i → MembersRead (d - 1) s u → ValueRead d r u Object i
 unfolding events Proper
-object_whole d r s u i p q = record { from = p.from; moves = omega (arith, p.moves, q.passed.forth); what = object i q.what q.last; proper = q.proper; starts = (refl, refl); to = value_end d (same_ending (object i q.what q.last)) (then_passed p.passed q.passed); holds = tt; passed = then_passed p.passed q.passed }
+object_whole d r s u i p q = record { from = p.from; moves = omega (arith, p.moves, q.passed.forth); what = object i q.what q.last; proper = q.proper; starts = (refl, refl); to = value_end d (same_ending (object i q.what q.last)) (then_passed p.passed q.passed); holds = tt; passed = then_passed p.passed q.passed; ends = same_ending (object i q.what q.last) }
 
 array_whole : (d : ℕ) (r s u : Reader) (i : ℕ) → TokenRead d r s Array i → EntriesRead (d - 1) s u → ValueRead d r u Array i
 unfolding events Proper
-array_whole d r s u i p q = record { from = p.from; moves = omega (arith, p.moves, q.passed.forth); what = array i q.what q.last; proper = q.proper; starts = (refl, refl); to = value_end d (same_ending (array i q.what q.last)) (then_passed p.passed q.passed); holds = tt; passed = then_passed p.passed q.passed }
+array_whole d r s u i p q = record { from = p.from; moves = omega (arith, p.moves, q.passed.forth); what = array i q.what q.last; proper = q.proper; starts = (refl, refl); to = value_end d (same_ending (array i q.what q.last)) (then_passed p.passed q.passed); holds = tt; passed = then_passed p.passed q.passed; ends = same_ending (array i q.what q.last) }
 
 object_value : (d : ℕ) (r s u : Reader) (x : Token) (i : ℕ) → x ≡ Object → TokenRead d r s x i → MembersRead (d - 1) s u → ValueRead d r u x i
 object_value d r s u x i e p q = let o : TokenRead d r s Object i = rw e at p in rw e (object_whole d r s u i o q)
@@ -107,11 +107,11 @@ scalar_value : (d : ℕ) (r s : Reader) (x : Token) (i : ℕ) → (x ≡ Object 
 unfolding events Proper
 scalar_value d r s Object i n m p = absurd (n refl)
 scalar_value d r s Array i n m p = absurd (m refl)
-scalar_value d r s (String y) i n m p = record { from = p.from; moves = p.moves; what = scalar string i; proper = tt; starts = (refl, refl); to = value_end d (λ _. refl) p.passed; holds = p.token.holds; passed = p.passed }
-scalar_value d r s (Number y) i n m p = record { from = p.from; moves = p.moves; what = scalar number i; proper = tt; starts = (refl, refl); to = value_end d (λ _. refl) p.passed; holds = p.token.holds; passed = p.passed }
-scalar_value d r s True i n m p = record { from = p.from; moves = p.moves; what = scalar literal_true i; proper = tt; starts = (refl, refl); to = value_end d (λ _. refl) p.passed; holds = tt; passed = p.passed }
-scalar_value d r s False i n m p = record { from = p.from; moves = p.moves; what = scalar literal_false i; proper = tt; starts = (refl, refl); to = value_end d (λ _. refl) p.passed; holds = tt; passed = p.passed }
-scalar_value d r s Null i n m p = record { from = p.from; moves = p.moves; what = scalar literal_null i; proper = tt; starts = (refl, refl); to = value_end d (λ _. refl) p.passed; holds = tt; passed = p.passed }
+scalar_value d r s (String y) i n m p = record { from = p.from; moves = p.moves; what = scalar string i; proper = tt; starts = (refl, refl); to = value_end d (λ _. refl) p.passed; holds = p.token.holds; passed = p.passed; ends = λ t. refl }
+scalar_value d r s (Number y) i n m p = record { from = p.from; moves = p.moves; what = scalar number i; proper = tt; starts = (refl, refl); to = value_end d (λ _. refl) p.passed; holds = p.token.holds; passed = p.passed; ends = λ t. refl }
+scalar_value d r s True i n m p = record { from = p.from; moves = p.moves; what = scalar literal_true i; proper = tt; starts = (refl, refl); to = value_end d (λ _. refl) p.passed; holds = tt; passed = p.passed; ends = λ t. refl }
+scalar_value d r s False i n m p = record { from = p.from; moves = p.moves; what = scalar literal_false i; proper = tt; starts = (refl, refl); to = value_end d (λ _. refl) p.passed; holds = tt; passed = p.passed; ends = λ t. refl }
+scalar_value d r s Null i n m p = record { from = p.from; moves = p.moves; what = scalar literal_null i; proper = tt; starts = (refl, refl); to = value_end d (λ _. refl) p.passed; holds = tt; passed = p.passed; ends = λ t. refl }
 
 pub value-returns : goal.value-returns
 value-returns t c = elim c.match-token.branch [

@@ -5,7 +5,7 @@ use Rattle.text.specs.declared.reader.Reader.{Reader}
 use Rattle.text.specs.Bytes.{white}
 use Rattle.text.specs.Machine.{Frame, value, entries, says, step, over, end_array}
 use Rattle.text.specs.Ahead.{here, Inside, Separated, ReadsEntry, Answer, ByteLeft}
-use Rattle.text.proofs.Steps.{Answers, met, solid, neither, then_left, token, then, then_passed, then_halted, broken}
+use Rattle.text.proofs.Steps.{Answers, met, solid, neither, then_left, token, then, then_passed, then_halted, no_comma, comma_fails, broken}
 use Rattle.text.proofs.Frames.{skip_entries}
 use Rattle.text.proofs.reader.Reader.entry.Goals as goal
 
@@ -27,7 +27,10 @@ pub returns-in_err-comma : goal.returns-in_err-comma
 returns-in_err-comma c =
     let w = c.accept.ensures.left c.if-accept.false in
     broken (ReadsEntry _ _ _) _ c.from_residual.ensures.1
-    (λ d. then_halted (then_left (c.blanks.ensures.runs _ (skip_entries c.args.first d)) w) (c.in_err-comma.ensures _ _ (separated c.args.first d c.blanks.ensures.stops w (λ b x m. search rules))))
+    (record {
+      early = comma_fails 93 c.args.first c.blanks.ensures.runs w (λ b x m. search rules) c.in_err-comma.ensures;
+      halted = λ d. then_halted (then_left (c.blanks.ensures.runs _ (skip_entries c.args.first d)) w) (no_comma c.args.first _ (separated c.args.first d c.blanks.ensures.stops w (λ b x m. search rules)) c.in_err-comma.ensures);
+    })
 
 pub returns : goal.returns
 returns c d =

@@ -1,12 +1,13 @@
-use Rattle.std.proofs.Common.{◌≡◌, ℕ, Bool, true, false, eqb, List, ◌∷◌, drop, sym, refl, ap, ◌∙◌, arith, rules}
+use Rattle.std.proofs.Common.{◌≡◌, ℕ, Bool, true, false, eqb, List, ◌∷◌, drop, sym, refl, ap, ◌∙◌, inl, inr, arith, rules}
 use Rattle.std.proofs.lemmas.Bool.{cond-false}
 use Rattle.std.proofs.lemmas.Bool.Decides.{nat_tests}
 use Rattle.text.specs.declared.reader.Reader.{Reader}
+use Rattle.text.specs.declared.fault.TextFault.{TextFault}
 use Rattle.text.specs.Bytes.{white}
 use Rattle.text.specs.Machine.{Frame, member, members, says, step, over, end_object}
 use Rattle.text.specs.Parts.{string_part}
-use Rattle.text.specs.Ahead.{here, Inside, Onward, Separated, NameRead, ReadsMember, Answer, ByteLeft}
-use Rattle.text.proofs.Steps.{Answers, met, solid, neither, then_left, token, then, then_passed, then_halted, broken}
+use Rattle.text.specs.Ahead.{here, Inside, Onward, Separated, NameRead, NameFails, MemberFails, ReadsMember, Answer, ByteLeft}
+use Rattle.text.proofs.Steps.{Answers, met, solid, neither, then_left, token, then, then_passed, then_halted, no_comma, comma_fails, broken}
 use Rattle.text.proofs.Frames.{skip_members}
 use Rattle.text.proofs.reader.Reader.member.Goals as goal
 
@@ -30,6 +31,13 @@ then_name f r s u x i p q = record {
   passed = λ d. then_passed (p d) (q.passed d);
 }
 
+-- the same for a name at fault
+then_name_fails : (f : Bool) {r s u : Reader} {e : TextFault} → ((d : ℕ) → Onward (λ k. members f d ∷ k) (λ k. member d ∷ k) r s) → NameFails (λ d k. member d ∷ k) s u e → MemberFails f r u e
+then_name_fails f p q = record {
+  early = inr (record { from = q.from; blank = λ d. then (p d) (q.blank d); solid = q.solid; cut = q.cut; halted = λ d. then_halted (p d) (q.halted d) });
+  halted = λ d. then_halted (p d) (q.halted d);
+}
+
 pub returns-then-accept : goal.returns-then-accept
 returns-then-accept c = let w = c.accept.ensures.passed c.if-accept.true in (w.next, λ d. then_passed (c.blanks.ensures.runs _ (skip_members c.args.first d)) (token end_object _ refl w.inside w.same w.next (λ k. closing c.args.first d _ k (met (λ b. eqb b 125) w (λ b x m. search rules)))))
 
@@ -37,13 +45,16 @@ pub returns-in_err-comma : goal.returns-in_err-comma
 returns-in_err-comma c =
     let w = c.accept.ensures.left c.if-accept.false in
     broken (ReadsMember _ _ _) _ c.from_residual.ensures.1
-    (λ d. then_halted (then_left (c.blanks.ensures.runs _ (skip_members c.args.first d)) w) (c.in_err-comma.ensures _ _ (separated c.args.first d c.blanks.ensures.stops w (λ b x m. search rules))))
+    (record {
+      early = inl (comma_fails 125 c.args.first c.blanks.ensures.runs w (λ b x m. search rules) c.in_err-comma.ensures);
+      halted = λ d. then_halted (then_left (c.blanks.ensures.runs _ (skip_members c.args.first d)) w) (no_comma c.args.first _ (separated c.args.first d c.blanks.ensures.stops w (λ b x m. search rules)) c.in_err-comma.ensures);
+    })
 
 pub returns-in_err-name : goal.returns-in_err-name
 returns-in_err-name c =
     let w = c.accept.ensures.left c.if-accept.false in
     broken (ReadsMember _ _ _) _ c.from_residual-in_err-name.ensures.1
-    (λ d. then_halted (then (then_left (c.blanks.ensures.runs _ (skip_members c.args.first d)) w) (c.in_ok-comma.ensures _ _ (separated c.args.first d c.blanks.ensures.stops w (λ b x m. search rules)))) (c.in_err-name.ensures d))
+    (then_name_fails c.args.first (λ d. then (then_left (c.blanks.ensures.runs _ (skip_members c.args.first d)) w) (c.in_ok-comma.ensures _ _ (separated c.args.first d c.blanks.ensures.stops w (λ b x m. search rules)))) c.in_err-name.ensures)
 
 pub returns : goal.returns
 returns c =

@@ -4,8 +4,8 @@ use Rattle.text.specs.declared.reader.Reader.{Reader}
 use Rattle.text.specs.Bytes.{white}
 use Rattle.text.specs.Machine.{Frame, value, chars, member, colon, members, says, event, step, over, name}
 use Rattle.text.specs.Parts.{string_part}
-use Rattle.text.specs.Ahead.{here, Inside, Passed, Onward, StringRead, Quotes, NameRead, ReadsName}
-use Rattle.text.proofs.Steps.{expected, then_passed, then_halted, passed_halted, broken}
+use Rattle.text.specs.Ahead.{here, Inside, Passed, Onward, StringRead, Quotes, NameCut, NameRead, ReadsName}
+use Rattle.text.proofs.Steps.{expected, other_byte, then_left, then_passed, then_halted, passed_halted, broken}
 use Rattle.text.proofs.Frames.{skip_member, skip_colon}
 use Rattle.text.proofs.reader.Reader.name.Goals as goal
 
@@ -30,14 +30,28 @@ name_read r s u v x t f q h p = record {
 }
 
 pub returns-in_err-value : goal.returns-in_err-value
-returns-in_err-value c = broken (ReadsName _ _ _) _ c.from_residual.ensures.1 (λ d. then_halted (c.blanks.ensures.runs _ (skip_member d)) (c.in_err-value.ensures name _ _ (member_quotes d c.blanks.ensures.stops)))
+returns-in_err-value c =
+    broken (ReadsName _ _ _) _ c.from_residual.ensures.1
+    (record {
+      from = c.blanks.new.self;
+      blank = λ d. c.blanks.ensures.runs _ (skip_member d);
+      solid = c.blanks.ensures.stops;
+      cut = NameCut.in_name c.in_err-value.ensures;
+      halted = λ d. then_halted (c.blanks.ensures.runs _ (skip_member d)) (c.in_err-value.ensures name _ _ (member_quotes d c.blanks.ensures.stops));
+    })
 
 pub returns-in_err-expect : goal.returns-in_err-expect
 unfolding step over
 returns-in_err-expect c =
     broken (ReadsName _ _ _) _ c.from_residual-in_err-expect.ensures.1
-    (λ d. passed_halted (λ _. refl) (to_colon _ _ _ _ _ d (c.blanks.ensures.runs _ (skip_member d)) c.in_ok-value.ensures (c.blanks-2.ensures.runs _ (skip_colon d)))
-    (expected _ (λ k. value d ∷ members false d ∷ k) (λ b. eqb b 58) _ c.in_err-expect.ensures (λ b x m. search rules) (λ i k. cond-false _ _ _ (c.blanks-2.ensures.stops i)) (λ k. refl)))
+    (record {
+      from = c.blanks.new.self;
+      blank = λ d. c.blanks.ensures.runs _ (skip_member d);
+      solid = c.blanks.ensures.stops;
+      cut = let w = c.in_err-expect.ensures.left.0 in NameCut.no_colon _ _ c.in_ok-value.ensures (λ f h. then_left (c.blanks-2.ensures.runs f h) w) (other_byte 58 w (λ b x m. search rules));
+      halted = λ d. passed_halted (λ _. refl) (to_colon _ _ _ _ _ d (c.blanks.ensures.runs _ (skip_member d)) c.in_ok-value.ensures (c.blanks-2.ensures.runs _ (skip_colon d)))
+          (expected _ (λ k. value d ∷ members false d ∷ k) (λ b. eqb b 58) _ c.in_err-expect.ensures (λ b x m. search rules) (λ i k. cond-false _ _ _ (c.blanks-2.ensures.stops i)) (λ k. refl));
+    })
 
 pub returns : goal.returns
 unfolding step over

@@ -6,8 +6,8 @@ use Rattle.text.proofs.reader.Reader.open.Goals as goal
 
 pub returns-then-levels-eq0 : goal.returns-then-levels-eq0
 returns-then-levels-eq0 c = record {
-  object = λ e. deep_here c.requires refl (λ k. deep_object _ _ k e (search rules));
-  array = λ e. deep_here c.requires refl (λ k. deep_array _ _ k e (search rules));
+  object = λ e. (search rules, deep_here c.requires refl (λ k. deep_object _ _ k e (search rules)));
+  array = λ e. (search rules, deep_here c.requires refl (λ k. deep_array _ _ k e (search rules)));
 }
 
 pub returns : goal.returns

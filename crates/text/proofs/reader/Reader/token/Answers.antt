@@ -17,7 +17,7 @@ token_then d r s u x p q = record {
 }
 
 pub returns-in_err-value : goal.returns-in_err-value
-returns-in_err-value c = broken (ReadsToken _ _ _) _ c.from_residual.ensures.1 (then_halted (c.blanks.ensures.runs _ (skip_value c.args.levels)) c.in_err-value.ensures)
+returns-in_err-value c = broken (ReadsToken _ _ _) _ c.from_residual.ensures.1 (let w = c.in_err-value.ensures in record { from = c.blanks.new.self; blank = c.blanks.ensures.runs; solid = c.blanks.ensures.stops; shut = w.0; halted = then_halted (c.blanks.ensures.runs _ (skip_value c.args.levels)) w.1 })
 
 pub returns : goal.returns
 returns c = token_then _ _ _ _ _ (c.blanks.ensures.runs _ (skip_value c.args.levels)) c.in_ok-value.ensures

@@ -1,11 +1,11 @@
-use Rattle.std.proofs.Common.{◌≡◌, ℕ, ◌+◌, ◌<◌, List, [], ◌∷◌, drop, length, is_some, sym, ap, ◌∙◌, refl, ⊎_elim, arith, Bor, rules}
+use Rattle.std.proofs.Common.{◌≡◌, ℕ, zero, suc, ◌⊎◌, ◌+◌, ◌<◌, List, [], ◌∷◌, drop, length, is_some, sym, ap, ◌∙◌, refl, inl, inr, ⊎_elim, arith, Bor, rules}
 use Rattle.std.proofs.lemmas.Bool.{cases_lt}
 use Rattle.std.proofs.lemmas.Bool.Decides.{nat_tests}
 use Rattle.text.specs.declared.reader.Reader.{Reader}
 use Rattle.text.specs.declared.token.Token.{Token}
 use Rattle.text.specs.declared.token.Token.TheVariants.{String, Number, True, False, Null}
-use Rattle.text.specs.Machine.{Kind, Frame, value, chars, says, event, letters, step, over, string, literal_true, literal_false, literal_null}
-use Rattle.text.specs.Ahead.{here, Inside, Passed, StringRead, Quotes, NumberRead, kind_of, after_token, length_of, Holds, Opened, TokenRead, ReadsTokenHere}
+use Rattle.text.specs.Machine.{Kind, Frame, value, chars, says, forbidden, event, letters, step, over, string, literal_true, literal_false, literal_null}
+use Rattle.text.specs.Ahead.{here, Inside, Passed, StringRead, Quotes, NumberRead, Bracket, kind_of, after_token, length_of, Holds, Opened, TokenRead, ReadsTokenHere}
 use Rattle.text.proofs.Steps.{told, announced, bad_here, bad_end, then_passed, passed_halted, broken}
 use Rattle.text.proofs.reader.Reader.token_here.Goals as goal
 use Rattle.text.proofs.reader.Reader.token_here.Goals.{in_default-via-in-Some+in_default+then-this-lt48, in_default-via-in-Some+in_default+else-this-lt48+else-this-lt58, in_default-via-in_default}
@@ -32,21 +32,33 @@ value_quotes : {r : Reader} (d : ℕ) → here r ≡ 34 → Quotes string (λ k.
 unfolding step over
 value_quotes d e = record { byte = λ i k. rw e refl; end = λ i k. refl }
 
+-- what stands here is no bracket
+no_bracket : (r : Reader) (d : ℕ) → (here r ≡ 123 → ⊥) → (here r ≡ 91 → ⊥) → Bracket r → d ≡ 0
+no_bracket r d p q (i, inl e) = absurd (p e)
+no_bracket r d p q (i, inr e) = absurd (q e)
+
+bracket_opens : (d b : ℕ) → step (value d ∷ []) b ≡ forbidden → (b ≡ 123) ⊎ (b ≡ 91) → ⊥
+unfolding step
+bracket_opens zero b f (inl e) = cc (rw e at f)
+bracket_opens zero b f (inr e) = cc (rw e at f)
+bracket_opens (suc d) b f (inl e) = cc (rw e at f)
+bracket_opens (suc d) b f (inr e) = cc (rw e at f)
+
 pub returns-in_err-string-in-Some-eq34 : goal.returns-in_err-string-in-Some-eq34
-returns-in_err-string-in-Some-eq34 c = broken (ReadsTokenHere _ _ _) _ c.from_residual-in_err-string-in-Some-eq34.ensures.1 (c.in_err-string-in-Some-eq34.ensures string _ _ (value_quotes c.args.levels (search rules)))
+returns-in_err-string-in-Some-eq34 c = broken (ReadsTokenHere _ _ _) _ c.from_residual-in_err-string-in-Some-eq34.ensures.1 (no_bracket c.args.self.now _ (λ e. search rules) (λ e. search rules), c.in_err-string-in-Some-eq34.ensures string _ _ (value_quotes c.args.levels (search rules)))
 
 pub returns-in_ok-string-in-Some-eq34 : goal.returns-in_ok-string-in-Some-eq34
 returns-in_ok-string-in-Some-eq34 c = string_token _ _ _ _ c.in_ok-string-in-Some-eq34.ensures
 
 pub returns-in_err-number-in-Some-eq45 : goal.returns-in_err-number-in-Some-eq45
-returns-in_err-number-in-Some-eq45 c = broken (ReadsTokenHere _ _ _) _ c.from_residual-in_err-number-in-Some-eq45.ensures.1 (c.in_err-number-in-Some-eq45.ensures c.args.levels)
+returns-in_err-number-in-Some-eq45 c = broken (ReadsTokenHere _ _ _) _ c.from_residual-in_err-number-in-Some-eq45.ensures.1 (no_bracket c.args.self.now _ (λ e. search rules) (λ e. search rules), c.in_err-number-in-Some-eq45.ensures c.args.levels)
 
 pub returns-in_ok-number-in-Some-eq45 : goal.returns-in_ok-number-in-Some-eq45
 returns-in_ok-number-in-Some-eq45 c = number_token _ _ _ _ c.in_ok-number-in-Some-eq45.ensures
 
 pub returns-in_err-letters-in-Some-t : goal.returns-in_err-letters-in-Some-t
 unfolding step
-returns-in_err-letters-in-Some-t c = broken (ReadsTokenHere _ _ _) _ c.from_residual-in_err-letters-in-Some-t.ensures.1 (passed_halted (λ _. refl) (to_literal _ _ literal_true 116 (114 ∷ 117 ∷ 101 ∷ []) (search rules) (search rules) (λ k. refl)) c.in_err-letters-in-Some-t.ensures)
+returns-in_err-letters-in-Some-t c = broken (ReadsTokenHere _ _ _) _ c.from_residual-in_err-letters-in-Some-t.ensures.1 (no_bracket c.args.self.now _ (λ e. search rules) (λ e. search rules), passed_halted (λ _. refl) (to_literal _ _ literal_true 116 (114 ∷ 117 ∷ 101 ∷ []) (search rules) (search rules) (λ k. refl)) c.in_err-letters-in-Some-t.ensures)
 
 pub returns-in_ok-letters-in-Some-t : goal.returns-in_ok-letters-in-Some-t
 unfolding step
@@ -54,7 +66,7 @@ returns-in_ok-letters-in-Some-t c = let p = c.in_ok-letters-in-Some-t.ensures in
 
 pub returns-in_err-letters-in-Some-f : goal.returns-in_err-letters-in-Some-f
 unfolding step
-returns-in_err-letters-in-Some-f c = broken (ReadsTokenHere _ _ _) _ c.from_residual-in_err-letters-in-Some-f.ensures.1 (passed_halted (λ _. refl) (to_literal _ _ literal_false 102 (97 ∷ 108 ∷ 115 ∷ 101 ∷ []) (search rules) (search rules) (λ k. refl)) c.in_err-letters-in-Some-f.ensures)
+returns-in_err-letters-in-Some-f c = broken (ReadsTokenHere _ _ _) _ c.from_residual-in_err-letters-in-Some-f.ensures.1 (no_bracket c.args.self.now _ (λ e. search rules) (λ e. search rules), passed_halted (λ _. refl) (to_literal _ _ literal_false 102 (97 ∷ 108 ∷ 115 ∷ 101 ∷ []) (search rules) (search rules) (λ k. refl)) c.in_err-letters-in-Some-f.ensures)
 
 pub returns-in_ok-letters-in-Some-f : goal.returns-in_ok-letters-in-Some-f
 unfolding step
@@ -62,7 +74,7 @@ returns-in_ok-letters-in-Some-f c = let p = c.in_ok-letters-in-Some-f.ensures in
 
 pub returns-in_err-letters-in-Some-n : goal.returns-in_err-letters-in-Some-n
 unfolding step
-returns-in_err-letters-in-Some-n c = broken (ReadsTokenHere _ _ _) _ c.from_residual-in_err-letters-in-Some-n.ensures.1 (passed_halted (λ _. refl) (to_literal _ _ literal_null 110 (117 ∷ 108 ∷ 108 ∷ []) (search rules) (search rules) (λ k. refl)) c.in_err-letters-in-Some-n.ensures)
+returns-in_err-letters-in-Some-n c = broken (ReadsTokenHere _ _ _) _ c.from_residual-in_err-letters-in-Some-n.ensures.1 (no_bracket c.args.self.now _ (λ e. search rules) (λ e. search rules), passed_halted (λ _. refl) (to_literal _ _ literal_null 110 (117 ∷ 108 ∷ 108 ∷ []) (search rules) (search rules) (λ k. refl)) c.in_err-letters-in-Some-n.ensures)
 
 pub returns-in_ok-letters-in-Some-n : goal.returns-in_ok-letters-in-Some-n
 unfolding step
@@ -71,7 +83,10 @@ returns-in_ok-letters-in-Some-n c = let p = c.in_ok-letters-in-Some-n.ensures in
 pub returns-in_default : goal.returns-in_default
 unfolding step over
 returns-in_default c =
-    ⊎_elim
-    (λ i. bad_here i c.forbidden.ensures (λ k. let w = c.requires i in elim c.in_default.branch [ in_default-via-in-Some+in_default+then-this-lt48 v ↦ grind (arith, nat_tests) | in_default-via-in-Some+in_default+else-this-lt48+else-this-lt58 v ↦ grind (arith, nat_tests) | in_default-via-in_default v ↦ absurd (told c.args.self.now _ c.peek.ensures (sym c.map.ensures.variant ∙ ap is_some v.in_default.is) i) ]))
-    (λ i. bad_end i c.forbidden.ensures (λ k. refl))
-    (cases_lt c.args.self.now.at (length c.args.self.now.text.now))
+    let bad : Inside c.args.self.now → (k : List Frame) → step (value c.args.levels ∷ k) (here c.args.self.now) ≡ forbidden = λ i k. let w = c.requires i in elim c.in_default.branch [ in_default-via-in-Some+in_default+then-this-lt48 v ↦ grind (arith, nat_tests) | in_default-via-in-Some+in_default+else-this-lt48+else-this-lt58 v ↦ grind (arith, nat_tests) | in_default-via-in_default v ↦ absurd (told c.args.self.now _ c.peek.ensures (sym c.map.ensures.variant ∙ ap is_some v.in_default.is) i) ] in (
+      λ b. absurd (bracket_opens _ _ (bad b.0 []) b.1),
+      ⊎_elim
+          (λ i. bad_here i c.forbidden.ensures (bad i))
+          (λ i. bad_end i c.forbidden.ensures (λ k. refl))
+          (cases_lt c.args.self.now.at (length c.args.self.now.text.now)),
+    )
