@@ -1,8 +1,6 @@
 // A task and its answer in one call.
 ghost use Rattle.std.specs.Prelude.{◌≡◌, length, OnErr, Result};
 ghost use Rattle.answers.specs.Answering.{Answers};
-ghost use Rattle.table.specs.Places.{outside};
-ghost use Rattle.table.specs.Verdict.{task};
 ghost use Rattle.scanner.specs.Plan.{InForce};
 ghost use Rattle.session.specs.Held.{items_of};
 ghost use Rattle.session.specs.Submitted.{Submitted};
@@ -24,7 +22,7 @@ pub fn answer<S: Scanner>(
 ) -> Result<usize, OutputFault>
     ensures same { S.catalogue session.new.scanner ≡ S.catalogue session.old.scanner }
     ensures in_force { InForce (S.catalogue session.old.scanner) (items_of session.new.kept) (S.state session.new.scanner) }
-    ensures submitted { (drew : Result (Unit {0}) SubmitFault) × Submitted (S.catalogue session.old.scanner) outside (task text.now (length table.old)) (items_of session.old.kept) (items_of session.new.kept) drew × OnErr drew (Unmoved session.old session.new) × Answers drew (items_of session.new.kept) buffer.old buffer.new result }
+    ensures submitted { (drew : Result (Unit {0}) SubmitFault) × Submitted (S.catalogue session.old.scanner) text.now (length table.old) (items_of session.old.kept) (items_of session.new.kept) drew × OnErr drew (Unmoved session.old session.new) × Answers drew (items_of session.new.kept) buffer.old buffer.new result }
 {
     let drew = session.submit(text, table);
     put_answer(session, drew, buffer)

@@ -3,7 +3,6 @@ use Rattle.std.proofs.Common.{◌≡◌, ℕ, true, false, ◌⊎◌, List, [], 
 use Rattle.std.proofs.lemmas.List.{append_assoc, append-nil}
 use Rattle.std.proofs.lemmas.List.Concat.{flat_map-append}
 use Rattle.table.specs.Task.{ActionObject}
-use Rattle.table.specs.Verdict.{task}
 use Rattle.scanner.specs.Meaning.{Catalogue}
 use Rattle.session.specs.declared.fault.SubmitFault.{SubmitFault}
 use Rattle.session.specs.declared.runs.Answer.{Answer}
@@ -11,7 +10,7 @@ use Rattle.session.specs.declared.runs.Answer.TheVariants.{Submitted}
 use Rattle.session.specs.declared.runs.Turn.{Turn}
 use Rattle.negotiation.specs.Met.{Stream, default_stream, IsOther, Meets, LastConfigure, NoConfigure}
 use Rattle.session.specs.History.{Asked, asked, submit, is_restart, SinceRestart}
-use Rattle.session.specs.Submissions.{submitted_by, submitted_in, submissions, actions_where_accepted, accepted_actions, all_accepted}
+use Rattle.session.specs.Submissions.{Submission, submitted_by, submitted_in, submissions, Adds, AllAccepted}
 use Rattle.session.specs.Promise.{Chosen}
 use Rattle.session.proofs.Tasks.{all_join}
 
@@ -19,15 +18,20 @@ use Rattle.session.proofs.Tasks.{all_join}
 pub submitted_as : (t : Turn) (a : Asked) (x : Answer) → asked t ≡ a → t.answer ≡ x → submitted_in t ≡ submitted_by a x
 submitted_as t a x q y = ap (λ z. submitted_by z t.answer) q ∙ ap (submitted_by a) y
 
--- the actions that a text brings
-pub accepted_in : (t : Turn) (text : List ℕ) (room : ℕ) (r : Result (Unit {0}) SubmitFault) (acts : List ActionObject) → asked t ≡ submit text room → t.answer ≡ Submitted r → actions_where_accepted r (task text room) ≡ acts → all_accepted (submitted_in t) ≡ acts
-accepted_in t text room r acts q y e = ap all_accepted (submitted_as t (submit text room) (Submitted r) q y) ∙ append-nil _ ∙ e
+-- accepted actions, one list after the other
+accepted_join : (l m : List Submission) (as bs : List ActionObject) → AllAccepted l as → AllAccepted m bs → AllAccepted (l ++ m) (as ++ bs)
+accepted_join [] m as bs e g = subst (AllAccepted m) (sym (ap (λ z. z ++ bs) e)) g
+accepted_join (x ∷ l) m as bs h g = (h.0, h.1 ++ bs, h.2, accepted_join l m h.1 bs h.3 g, ap (λ z. z ++ bs) h.4 ∙ append_assoc h.0 h.1 bs)
 
-accepted_more : (since : List Turn) (t : Turn) (acts : List ActionObject) → all_accepted (submitted_in t) ≡ acts → all_accepted (submissions (since ++ t ∷ [])) ≡ all_accepted (submissions since) ++ acts
-accepted_more since t acts e =
-    ap all_accepted (flat_map-append submitted_in since (t ∷ []))
-    ∙ flat_map-append accepted_actions (submissions since) (submissions (t ∷ []))
-    ∙ ap (λ l. all_accepted (submissions since) ++ l) (ap all_accepted (append-nil (submitted_in t)) ∙ e)
+accepted_more : (since : List Turn) (t : Turn) (as acts : List ActionObject) → AllAccepted (submissions since) as → AllAccepted (submitted_in t) acts → AllAccepted (submissions (since ++ t ∷ [])) (as ++ acts)
+accepted_more since t as acts h g =
+    subst (λ l. AllAccepted l (as ++ acts))
+    (sym (flat_map-append submitted_in since (t ∷ []) ∙ ap (λ m. submissions since ++ m) (append-nil (submitted_in t))))
+    (accepted_join (submissions since) (submitted_in t) as acts h g)
+
+-- the actions that a text adds
+pub accepted_in : (t : Turn) (text : List ℕ) (room : ℕ) (r : Result (Unit {0}) SubmitFault) (acts : List ActionObject) → asked t ≡ submit text room → t.answer ≡ Submitted r → Adds (record { text = text; room = room; answer = r }) acts → AllAccepted (submitted_in t) acts
+accepted_in t text room r acts q y a = subst (λ l. AllAccepted l acts) (sym (submitted_as t (submit text room) (Submitted r) q y)) (acts, [], a, refl, sym (append-nil acts))
 
 since_more : (h since : List Turn) (t : Turn) → is_restart (asked t) ≡ false → SinceRestart h since → SinceRestart (h ++ t ∷ []) (since ++ t ∷ [])
 since_more h since t n s =
@@ -70,25 +74,23 @@ last_new old acts a l =
 
 module _ (k : Catalogue) where
   pub chosen_opening : Chosen k [] default_stream
-  chosen_opening = record { since = []; restart = record { before = []; split = refl; begins = inl refl; none_since = tt }; met = inr (tt, refl) }
+  chosen_opening = record { since = []; restart = record { before = []; split = refl; begins = inl refl; none_since = tt }; met = ([], refl, inr (tt, refl)) }
 
   pub chosen_restart : (h : List Turn) (t : Turn) → is_restart (asked t) ≡ true → Chosen k (h ++ t ∷ []) default_stream
-  chosen_restart h t r = record { since = []; restart = since_restart h t r; met = inr (tt, refl) }
+  chosen_restart h t r = record { since = []; restart = since_restart h t r; met = ([], refl, inr (tt, refl)) }
 
-  kept_by : (l : List ActionObject) (old acts : List ActionObject) (s : Stream) → l ≡ old ++ acts → NoConfigure acts
-      → (((a : ActionObject) × LastConfigure old a × Meets k a s) ⊎ (NoConfigure old × (s ≡ default_stream)))
-      → (((a : ActionObject) × LastConfigure l a × Meets k a s) ⊎ (NoConfigure l × (s ≡ default_stream)))
-  kept_by l old acts s e n (inl h) = inl (h.0, subst (λ x. LastConfigure x h.0) (sym e) (last_kept old acts h.0 n h.1), h.2)
-  kept_by l old acts s e n (inr h) = inr (subst NoConfigure (sym e) (all_join IsOther old acts h.0 n), h.1)
+  kept_by : (old acts : List ActionObject) (s : Stream) → NoConfigure acts → LastMet k old s → LastMet k (old ++ acts) s
+  kept_by old acts s n (inl h) = inl (h.0, last_kept old acts h.0 n h.1, h.2)
+  kept_by old acts s n (inr h) = inr (all_join IsOther old acts h.0 n, h.1)
 
-  module _ (h : List Turn) (t : Turn) (quiet : is_restart (asked t) ≡ false) (acts : List ActionObject) (brings : all_accepted (submitted_in t) ≡ acts) (s : Stream) (old : Chosen k h s) where
+  module _ (h : List Turn) (t : Turn) (quiet : is_restart (asked t) ≡ false) (acts : List ActionObject) (brings : AllAccepted (submitted_in t) acts) (s : Stream) (old : Chosen k h s) where
     -- a turn that brings no configure action
     pub chosen_kept : NoConfigure acts → Chosen k (h ++ t ∷ []) s
     chosen_kept n =
         record {
           since = old.since ++ t ∷ [];
           restart = since_more h old.since t quiet old.restart;
-          met = kept_by (all_accepted (submissions (old.since ++ t ∷ []))) (all_accepted (submissions old.since)) acts s (accepted_more old.since t acts brings) n old.met;
+          met = (old.met.0 ++ acts, accepted_more old.since t old.met.0 acts old.met.1 brings, kept_by old.met.0 acts s n old.met.2);
         }
 
     -- a turn that brings one
@@ -97,5 +99,5 @@ module _ (k : Catalogue) where
         record {
           since = old.since ++ t ∷ [];
           restart = since_more h old.since t quiet old.restart;
-          met = inl (a, subst (λ x. LastConfigure x a) (sym (accepted_more old.since t acts brings)) (last_new (all_accepted (submissions old.since)) acts a l), m);
+          met = (old.met.0 ++ acts, accepted_more old.since t old.met.0 acts old.met.1 brings, inl (a, last_new old.met.0 acts a l, m));
         }

@@ -1,9 +1,9 @@
 -- One turn more leaves the scanner holding, and the session keeping, the plan of the chosen stream.
 use Rattle.std.proofs.Common.{◌≡◌, ℕ, true, false, ◌⊎◌, List, [], ◌∷◌, ◌++◌, Ok, Err, Result, sym, refl, ap, ◌∙◌, subst, inl, inr}
 use Rattle.table.specs.declared.fault.TableFault.{TableFault}
+use Rattle.table.specs.ComesTo.{ComesTo}
 use Rattle.table.specs.Places.{outside}
 use Rattle.table.specs.Task.{ActionObject}
-use Rattle.table.specs.Verdict.{task}
 use Rattle.scanner.specs.declared.plan.Item.{Item}
 use Rattle.scanner.specs.Meaning.{Catalogue, State}
 use Rattle.scanner.specs.Plan.{InForce}
@@ -15,8 +15,8 @@ use Rattle.session.specs.declared.fault.SubmitFault.TheVariants.{Table, Rejected
 use Rattle.session.specs.declared.runs.Answer.TheVariants.{Submitted}
 use Rattle.session.specs.declared.runs.Turn.{Turn}
 use Rattle.session.specs.History.{asked, submit, is_restart}
-use Rattle.session.specs.Submissions.{submitted_in, actions_where_accepted, all_accepted}
-use Rattle.session.specs.Submitted.{Submitted as SubmittedTo, Tells}
+use Rattle.session.specs.Submissions.{submitted_in, Adds, AllAccepted}
+use Rattle.session.specs.Submitted.{Submitted as SubmittedTo, Tells, Draws}
 use Rattle.session.specs.Promise.{Chosen, HoldsChosen, KeepsChosen}
 use Rattle.session.proofs.Chosen.{accepted_in, chosen_opening, chosen_restart, chosen_kept, chosen_new}
 
@@ -34,7 +34,7 @@ module _ (k : Catalogue) where
   keeps_restart h t xs r e = record { stream = default_stream; chosen = chosen_restart k h t r; is = e }
 
   -- a question or a reply
-  module _ (h : List Turn) (t : Turn) (quiet : is_restart (asked t) ≡ false) (nothing : all_accepted (submitted_in t) ≡ []) where
+  module _ (h : List Turn) (t : Turn) (quiet : is_restart (asked t) ≡ false) (nothing : AllAccepted (submitted_in t) []) where
     pub holds_asking : (st : State) → HoldsChosen k h st → HoldsChosen k (h ++ t ∷ []) st
     holds_asking st p = record { stream = p.stream; chosen = chosen_kept k h t quiet [] nothing p.stream p.chosen tt; in_force = p.in_force }
 
@@ -49,25 +49,25 @@ module _ (k : Catalogue) where
     quiet : is_restart (asked t) ≡ false
     quiet = ap is_restart q
 
-    brings : (z : Result (Unit {0}) SubmitFault) (v : Result (List ActionObject) TableFault) → r ≡ z → task text room ≡ v → all_accepted (submitted_in t) ≡ actions_where_accepted z v
-    brings z v e w = accepted_in t text room r (actions_where_accepted z v) q y (ap (λ a. actions_where_accepted a (task text room)) e ∙ ap (actions_where_accepted z) w)
+    brings : (acts : List ActionObject) → Adds (record { text = text; room = room; answer = r }) acts → AllAccepted (submitted_in t) acts
+    brings acts a = accepted_in t text room r acts q y a
 
     refused : (e : SubmitFault) → r ≡ Err e → Chooses h t xs ys
-    refused e z = inl (unmoved e z, λ s c. chosen_kept k h t quiet [] (brings (Err e) (task text room) z refl) s c tt)
+    refused e z = inl (unmoved e z, λ s c. chosen_kept k h t quiet [] (brings [] (inr (e, z, refl))) s c tt)
 
-    by_outcome : (acts : List ActionObject) → task text room ≡ Ok acts → (o : Outcome) → OneVerdict k outside acts o → Tells o xs ys r → Chooses h t xs ys
-    by_outcome acts v unchanged d z = inl (z.1, λ s c. chosen_kept k h t quiet acts (brings (Ok tt) (Ok acts) z.0 v) s c ((says.outcome acts unchanged).0 d).0)
+    by_outcome : (acts : List ActionObject) → ComesTo text room (Ok acts) → (o : Outcome) → OneVerdict k outside acts o → Tells o xs ys r → Chooses h t xs ys
+    by_outcome acts v unchanged d z = inl (z.1, λ s c. chosen_kept k h t quiet acts (brings acts (inl (z.0, v))) s c ((says.outcome acts unchanged).0 d).0)
     by_outcome acts v (planned zs) d z =
         let m = (says.outcome acts (planned zs)).0 d in
-        inr (m.met.0, z.1 ∙ m.met.2, λ s c. chosen_new k h t quiet acts (brings (Ok tt) (Ok acts) z.0 v) s c m.action m.met.0 m.last m.met.1)
+        inr (m.met.0, z.1 ∙ m.met.2, λ s c. chosen_new k h t quiet acts (brings acts (inl (z.0, v))) s c m.action m.met.0 m.last m.met.1)
     by_outcome acts v (rejected f) d z = refused (Rejected f) z
 
-    by_task : (v : Result (List ActionObject) TableFault) → task text room ≡ v → SubmittedTo k outside v xs ys r → Chooses h t xs ys
-    by_task (Ok acts) v s = by_outcome acts v s.0 s.1 s.2
-    by_task (Err e) v s = refused (Table e) s
+    by_result : (x : Result (List ActionObject) TableFault) → ComesTo text room x → Draws k x xs ys r → Chooses h t xs ys
+    by_result (Ok acts) v s = by_outcome acts v s.0 s.1 s.2
+    by_result (Err e) v s = refused (Table e) s
 
-    pub chooses : SubmittedTo k outside (task text room) xs ys r → Chooses h t xs ys
-    chooses s = by_task (task text room) refl s
+    pub chooses : SubmittedTo k text room xs ys r → Chooses h t xs ys
+    chooses s = by_result s.0 s.1 s.2
 
   keeps_by : (h : List Turn) (t : Turn) (xs ys : List Item) → Chooses h t xs ys → KeepsChosen k h xs → KeepsChosen k (h ++ t ∷ []) ys
   keeps_by h t xs ys (inl c) p = record { stream = p.stream; chosen = c.1 p.stream p.chosen; is = c.0 ∙ p.is }
@@ -77,7 +77,7 @@ module _ (k : Catalogue) where
   holds_by h t xs ys old new f same (inl c) p = record { stream = p.stream; chosen = c.1 p.stream p.chosen; in_force = subst (InForce k (plan_of k p.stream)) (sym (same c.0)) p.in_force }
   holds_by h t xs ys old new f same (inr c) p = record { stream = c.0; chosen = c.2 p.stream p.chosen; in_force = subst (λ l. InForce k l new) c.1 f }
 
-  module _ (says : SaysWhatIs k) (h : List Turn) (t : Turn) (text : List ℕ) (room : ℕ) (q : asked t ≡ submit text room) (xs ys : List Item) (r : Result (Unit {0}) SubmitFault) (y : t.answer ≡ Submitted r) (unmoved : (e : SubmitFault) → r ≡ Err e → ys ≡ xs) (s : SubmittedTo k outside (task text room) xs ys r) where
+  module _ (says : SaysWhatIs k) (h : List Turn) (t : Turn) (text : List ℕ) (room : ℕ) (q : asked t ≡ submit text room) (xs ys : List Item) (r : Result (Unit {0}) SubmitFault) (y : t.answer ≡ Submitted r) (unmoved : (e : SubmitFault) → r ≡ Err e → ys ≡ xs) (s : SubmittedTo k text room xs ys r) where
     pub keeps_submit : KeepsChosen k h xs → KeepsChosen k (h ++ t ∷ []) ys
     keeps_submit p = keeps_by h t xs ys (chooses says h t text room q xs ys r y unmoved s) p
 

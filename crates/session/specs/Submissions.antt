@@ -1,9 +1,9 @@
 -- What was submitted to a session, and what the box answered.
-use Rattle.std.specs.Prelude.{◌≡◌, ℕ, List, [], ◌∷◌, map, Ok, Err, Result}
+use Rattle.std.specs.Prelude.{◌≡◌, ◌⊎◌, ℕ, List, [], ◌∷◌, ◌++◌, map, Ok, Err, Result}
 use Rattle.std.specs.List.{flat_map}
 use Rattle.table.specs.declared.fault.TableFault.{TableFault}
 use Rattle.table.specs.Task.{ActionObject}
-use Rattle.table.specs.Verdict.{task}
+use Rattle.table.specs.ComesTo.{ComesTo}
 use Rattle.session.specs.declared.fault.SubmitFault.{SubmitFault}
 use Rattle.session.specs.declared.runs.Answer.{Answer}
 use Rattle.session.specs.declared.runs.Answer.TheVariants.{Submitted, Restarted, Replied, Setting, Enabled}
@@ -41,21 +41,17 @@ submissions h = flat_map submitted_in h
 
 -- the text could be read, as a task with these actions
 abbrev pub IsTask : Submission → List ActionObject → Type 0
-IsTask s acts = task s.text s.room ≡ Ok acts
+IsTask s acts = ComesTo s.text s.room (Ok acts)
 
 -- the text could not be read: it has this fault
 abbrev pub IsNoTask : Submission → TableFault → Type 0
-IsNoTask s e = task s.text s.room ≡ Err e
+IsNoTask s e = ComesTo s.text s.room (Err e)
 
--- the actions of a text that was answered so: those of its task where it was accepted, else none
-abbrev pub actions_where_accepted : Result (Unit {0}) SubmitFault → Result (List ActionObject) TableFault → List ActionObject
-actions_where_accepted (Ok u) (Ok acts) = acts
-actions_where_accepted (Ok u) (Err e) = []
-actions_where_accepted (Err f) r = []
+-- what a submission adds to the accepted actions: the actions of its task where it drew no fault, else none
+abbrev pub Adds : Submission → List ActionObject → Type 0
+Adds s acts = ((s.answer ≡ Ok tt) × IsTask s acts) ⊎ ((e : SubmitFault) × (s.answer ≡ Err e) × (acts ≡ []))
 
-abbrev pub accepted_actions : Submission → List ActionObject
-accepted_actions s = actions_where_accepted s.answer (task s.text s.room)
-
--- the actions of all tasks that were accepted, in order
-abbrev pub all_accepted : List Submission → List ActionObject
-all_accepted l = flat_map accepted_actions l
+-- these are the actions of all tasks that were accepted, in order
+abbrev pub AllAccepted : List Submission → List ActionObject → Type 0
+AllAccepted [] acts = acts ≡ []
+AllAccepted (s ∷ l) acts = (own : List ActionObject) × (rest : List ActionObject) × Adds s own × AllAccepted l rest × (acts ≡ own ++ rest)
