@@ -1,21 +1,17 @@
 -- The value of a text without faults decides what becomes of it.
-use Rattle.std.proofs.Common.{◌≡◌, ◌⊎◌, ℕ, ◌<◌, ◌≤◌, min, true, false, leb, List, length, Ok, Err, Result, inl, inr, refl, sym, ap, ◌∙◌, arith}
+use Rattle.std.proofs.Common.{◌≡◌, ℕ, ◌<◌, ◌≤◌, min, true, false, leb, List, length, Ok, Err, inl, inr, refl, sym, ap, ◌∙◌, arith}
 use Rattle.std.proofs.lemmas.Bool.Decides.{nat_tests}
-use Rattle.text.specs.declared.fault.TextFault.{TextFault}
 use Rattle.text.specs.Machine.{outcome}
 use Rattle.text.specs.Tree.{Json}
 use Rattle.text.specs.Value.{ValueOf, WritesOne}
-use Rattle.table.specs.declared.record.Record.{Record}
-use Rattle.table.specs.declared.fault.TableFault.{TableFault}
-use Rattle.table.specs.declared.fault.TableFault.TheVariants.{Text, Form, TooHeavy}
+use Rattle.table.specs.declared.fault.TableFault.TheVariants.{Form, TooHeavy}
 use Rattle.table.specs.declared.fault.FormRule.{FormRule}
 use Rattle.table.specs.Limits.{max_weight}
-use Rattle.table.specs.Task.{ActionObject}
 use Rattle.table.specs.Form.{Lot, begins, failed, done, after}
 use Rattle.table.specs.Rules.{Broken, FirstBroken, Formed, Before}
 use Rattle.table.specs.TaskOf.{task_of, weight_of}
-use Rattle.table.specs.Verdict.{form, verdict, ReadsTask, objects, task}
-use Rattle.table.specs.Laws.{ByValue, ValueDecides, Accepted, TaskJudged, CallJudged}
+use Rattle.table.specs.Verdict.{form, verdict, task}
+use Rattle.table.specs.Laws.{ByValue, ValueDecides}
 use Rattle.table.proofs.Values.{Read, same_broke, fine, broke, resume, task_read, task_told}
 use Rattle.table.proofs.Breaking.{task_found}
 use Rattle.table.proofs.Finding.{task_hit}
@@ -105,31 +101,3 @@ module _ (writes : WritesOne) (t : List ℕ) (room : ℕ) (v : Json) (f : outcom
 
 pub value_decides : WritesOne → ValueDecides
 value_decides writes t room v f w = by_read writes t room v f w (task_read t v) refl
-
--- and each text comes to one of the four
-by_value : (writes : WritesOne) (t : List ℕ) (room : ℕ) (v : Json) → outcome t ≡ Ok tt → ValueOf t v → (x : Result (List ActionObject) TableFault) → task t room ≡ x → TaskJudged t room x
-by_value writes t room v f w x z = go ((value_decides writes t room v f w).decided) (leb (weight_of t v) (min max_weight room)) refl
-  where
-    b : ByValue t room v
-    b = value_decides writes t room v f w
-
-    go : Formed t v ⊎ ((rule : FormRule) × (i : ℕ) × FirstBroken t v rule i) → (l : _) → leb (weight_of t v) (min max_weight room) ≡ l → TaskJudged t room x
-    go (inl n) true e = let y = sym z ∙ b.written n (grind (arith, nat_tests)) in rw y (record { fine = f; value = v; writes = w; formed = n; light = grind (arith, nat_tests); task = refl })
-    go (inl n) false e = let y = sym z ∙ ap objects (b.heavy n (grind (arith, nat_tests))) in rw y (record { fine = f; value = v; writes = w; formed = n; heavy = grind (arith, nat_tests) })
-    go (inr n) l e = let y = sym z ∙ ap objects (b.first_decides n.0 n.1 n.2) in rw y (record { fine = f; value = v; writes = w; first = n.2 })
-
-by_outcome : (writes : WritesOne) (t : List ℕ) (room : ℕ) (r : Result (Unit {0}) TextFault) → outcome t ≡ r → (x : Result (List ActionObject) TableFault) → task t room ≡ x → TaskJudged t room x
-unfolding verdict
-by_outcome writes t room (Ok u) f x z = let v = (writes t).some f in by_value writes t room v.0 f v.1 x z
-by_outcome writes t room (Err e) f x z = let y : task t room ≡ Err (Text e) = rw f refl in let q = sym z ∙ y in rw q f
-
-pub judged : (writes : WritesOne) (t : List ℕ) (room : ℕ) (x : Result (List ActionObject) TableFault) → task t room ≡ x → TaskJudged t room x
-judged writes t room x z = by_outcome writes t room (outcome t) refl x z
-
-pub judged_call : (writes : WritesOne) (t : List ℕ) (table : List Record) (x : Result ℕ TableFault) → ReadsTask t table x → CallJudged t table x
-judged_call writes t table (Ok n) p = judged writes t (length table) _ (ap objects p.1)
-judged_call writes t table (Err e) p = judged writes t (length table) _ (ap objects p)
-
--- the task that is read is the one that some value writes, which is light enough
-pub task_written : (writes : WritesOne) (t : List ℕ) (room : ℕ) (acts : List ActionObject) → task t room ≡ Ok acts → Accepted t room acts
-task_written writes t room acts z = judged writes t room (Ok acts) z

@@ -22,3 +22,4 @@ pub mod Choosing
 pub mod Called
 pub mod Rows
 pub mod Within
+pub mod Coming

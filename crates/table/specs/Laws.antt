@@ -1,22 +1,21 @@
 -- Laws of the verdict on a text.
-use Rattle.std.specs.Prelude.{◌≡◌, ◌⊎◌, ℕ, ◌<◌, ◌≤◌, min, List, length, take, Ok, Err, Result}
+use Rattle.std.specs.Prelude.{◌≡◌, ◌⊎◌, ℕ, ◌<◌, ◌≤◌, min, List, length, Ok, Err, Result}
 use Rattle.text.specs.declared.fault.TextFault.{TextFault}
 use Rattle.text.specs.declared.fault.TextFault.TheVariants.{TooLong}
 use Rattle.text.specs.Limits.{most_bytes}
 use Rattle.text.specs.Machine.{outcome}
 use Rattle.text.specs.Tree.{Json}
 use Rattle.text.specs.Value.{ValueOf}
-use Rattle.table.specs.declared.record.Record.{Record}
 use Rattle.table.specs.declared.fault.TableFault.{TableFault}
 use Rattle.table.specs.declared.fault.TableFault.TheVariants.{Text, Form, TooHeavy}
 use Rattle.table.specs.declared.fault.FormRule.{FormRule}
 use Rattle.table.specs.Limits.{max_weight}
 use Rattle.table.specs.Form.{Lot, failed, done}
 use Rattle.table.specs.Task.{ActionObject}
-use Rattle.table.specs.Views.{actions_in}
 use Rattle.table.specs.Rules.{FirstBroken, Formed}
 use Rattle.table.specs.TaskOf.{task_of, weight_of}
 use Rattle.table.specs.Verdict.{form, verdict, task}
+use Rattle.table.specs.ComesTo.{ComesTo}
 
 -- in which order the faults of a text come: too long, then a fault anywhere in the text, then a broken rule of form, then the weight
 pub record Ordered (t : List ℕ) (room : ℕ) : Type 0 where
@@ -50,42 +49,14 @@ pub record ByValue (t : List ℕ) (room : ℕ) (v : Json) : Type 0 where
 abbrev pub ValueDecides : Type 0
 ValueDecides = (t : List ℕ) (room : ℕ) (v : Json) → outcome t ≡ Ok tt → ValueOf t v → ByValue t room v
 
--- a text is read: it writes a value that breaks no rule and is light enough, and this is its task
-pub record Accepted (t : List ℕ) (room : ℕ) (acts : List ActionObject) : Type 0 where
-  pub fine : outcome t ≡ Ok tt
-  pub value : Json
-  pub writes : ValueOf t value
-  pub formed : Formed t value
-  pub light : weight_of t value ≤ min max_weight room
-  pub task : acts ≡ task_of t value
-
--- a text is refused for a rule: it writes a value that breaks this rule at this offset, and no other before it
-pub record Misformed (t : List ℕ) (rule : FormRule) (i : ℕ) : Type 0 where
-  pub fine : outcome t ≡ Ok tt
-  pub value : Json
-  pub writes : ValueOf t value
-  pub first : FirstBroken t value rule i
-
--- a text is refused for its weight: it writes a value that breaks no rule and is too heavy
-pub record Overweight (t : List ℕ) (room : ℕ) : Type 0 where
-  pub fine : outcome t ≡ Ok tt
-  pub value : Json
-  pub writes : ValueOf t value
-  pub formed : Formed t value
-  pub heavy : min max_weight room < weight_of t value
-
--- what becomes of a text with a table of so many records
-abbrev pub TaskJudged : List ℕ → ℕ → Result (List ActionObject) TableFault → Type 0
-TaskJudged t room (Ok acts) = Accepted t room acts
-TaskJudged t room (Err (Text e)) = outcome t ≡ Err e
-TaskJudged t room (Err (Form rule i)) = Misformed t rule i
-TaskJudged t room (Err TooHeavy) = Overweight t room
-
--- the same of a call that read n records into the table
-abbrev pub CallJudged : List ℕ → List Record → Result ℕ TableFault → Type 0
-CallJudged t table (Ok n) = TaskJudged t (length table) (Ok (actions_in (take n table)))
-CallJudged t table (Err e) = TaskJudged t (length table) (Err e)
-
--- each text comes to one of these with every table
+-- each text comes to one thing with every table
 abbrev pub TextsJudged : Type 0
-TextsJudged = (t : List ℕ) (room : ℕ) (x : Result (List ActionObject) TableFault) → task t room ≡ x → TaskJudged t room x
+TextsJudged = (t : List ℕ) (room : ℕ) (x : Result (List ActionObject) TableFault) → task t room ≡ x → ComesTo t room x
+
+-- and to nothing else
+pub record OneResult (t : List ℕ) (room : ℕ) : Type 0 where
+  pub comes : ComesTo t room (task t room)
+  pub only : (x : Result (List ActionObject) TableFault) → ComesTo t room x → x ≡ task t room
+
+abbrev pub ComeToOne : Type 0
+ComeToOne = (t : List ℕ) (room : ℕ) → OneResult t room

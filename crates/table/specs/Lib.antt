@@ -18,3 +18,4 @@ pub mod Task
 pub mod Views
 pub mod Within
 pub mod Rows
+pub mod ComesTo

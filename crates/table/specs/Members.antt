@@ -5,7 +5,7 @@ use Rattle.text.specs.Tree.{Json, Members, Entries, scalar, object, array, one_m
 use Rattle.text.specs.Strings.{stands}
 use Rattle.text.specs.Parts.{string_part}
 use Rattle.table.specs.declared.keys.Key.{Key}
-use Rattle.table.specs.Form.{key_at}
+use Rattle.table.specs.Words.{key_spelled}
 
 -- the kind of the first token of a value
 abbrev pub first_kind : Json → Kind
@@ -25,7 +25,7 @@ said t i = stands (string_part (drop i t))
 
 -- the member name that the string at i spells, or none
 abbrev pub key_of : List ℕ → ℕ → Option Key
-key_of t i = key_at (drop i t)
+key_of t i = key_spelled (said t i)
 
 -- there is a member whose name stands at k, with the value v
 pub data Has : Members → ℕ → Json → Type 0 where

@@ -4,7 +4,7 @@ ghost use Rattle.table.specs.declared.exception.Exception.{Exception};
 ghost use Rattle.table.specs.declared.keys.Key.{Key};
 ghost use Rattle.table.specs.declared.level.Level.{Level};
 ghost use Rattle.table.specs.declared.record.Verb.{Verb};
-ghost use Rattle.table.specs.Laws.{Order, ValueDecides, TextsJudged};
+ghost use Rattle.table.specs.Laws.{Order, ValueDecides, TextsJudged, ComeToOne};
 ghost use Rattle.table.specs.Levels.{same_level};
 ghost use Rattle.table.specs.Rows.{RowsShow};
 ghost use Rattle.table.specs.Same.{same_exception, same_key, same_verb};
@@ -17,7 +17,7 @@ use crate::exception::Exception;
 use crate::keys::Key;
 use crate::level::Level;
 use crate::record::Verb;
-use text::{length_comes_first, one_value_stands};
+use text::{grammar_decides, length_comes_first, one_value_stands};
 
 // The faults of a text come in this order.
 pub fn faults_come_in_order()
@@ -33,13 +33,22 @@ pub fn value_decides()
     ensures judged { TextsJudged }
 {
     one_value_stands();
+    grammar_decides();
+}
+
+// A text comes to one result with a table: a fault of the text, a broken rule of form, too much weight, or its task.
+pub fn texts_come_to_one_result()
+    ensures { ComeToOne }
+{
+    one_value_stands();
+    grammar_decides();
 }
 
 // A task that is read keeps the limits of arrays and numbers.
 pub fn tasks_are_within_limits()
     ensures { TasksWithin }
 {
-    one_value_stands();
+    value_decides();
 }
 
 // How to go through the objects that the records of a task stand for; the records of a task's objects show these objects.

@@ -7,23 +7,21 @@ ghost use Rattle.table.specs.Drafts.{with_entries};
 ghost use Rattle.table.specs.Form.{nothing, is_task};
 ghost use Rattle.table.specs.Places.{InsideOf};
 ghost use Rattle.table.specs.Verdict.{ReadsTask, HoldsTask};
-ghost use Rattle.table.specs.Laws.{CallJudged};
+ghost use Rattle.table.specs.ComesTo.{CallComesTo};
 ghost use Rattle.table.specs.Within.{ReadsWithin};
 ghost use Rattle.table.specs.Works.{stored, absent_if, ReadsKnown, ReadsParts, ReadsObject, Closes, Passes, at_members, at_array, at_entries, at_name};
 
 use crate::draft::Draft;
 use crate::fault::{FormRule, TableFault};
 use crate::keys::Key;
+use crate::laws::value_decides;
 use crate::level::Level;
 use crate::limits::MAX_WEIGHT;
 use crate::meaning::Meaning;
 use crate::place::Place;
 use crate::record::Record;
 use crate::tally::Tally;
-use text::{
-    MAX_LEVELS, Member, Placed, Reader, Token, check, check_length, length_comes_first,
-    one_value_stands,
-};
+use text::{MAX_LEVELS, Member, Placed, Reader, Token, check, check_length, length_comes_first};
 
 // A text that is being read, and the table into which its records go. The table is lent, since no call may allocate.
 #[derive(Drop)]
@@ -260,14 +258,14 @@ fn first_fault(text: &[u8], fault: TableFault) -> TableFault
 // Reads a text as a task into the lent table: how many records it uses. It tells the count and does not lend that part of the
 // table, since what the whole table holds afterwards is promised too.
 // A text that is too long is refused first, then one that is no JSON, then one that breaks a rule of form, then one that is too heavy.
-#[tactic(auto, using(crate::proofs::Deciding::judged_call))]
+#[tactic(auto, using(crate::proofs::Coming::call_comes))]
 pub fn read_task(text: &[u8], place: &mut Place, table: &mut [Record]) -> Result<usize, TableFault>
     ensures place { place.new ≡ place.old }
     ensures reads { ReadsTask text.now table.new result }
     ensures task { HoldsTask text.now table.new result }
-    ensures judged { CallJudged text.now table.new result }
+    ensures judged { CallComesTo text.now table.new result }
     ensures within { ReadsWithin table.new result }
 {
-    one_value_stands();
+    value_decides();
     pass(text, place, table).map_err(|fault| first_fault(text, fault))
 }

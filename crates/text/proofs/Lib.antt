@@ -6,6 +6,7 @@ pub mod Stacks
 pub mod Sound
 pub mod Complete
 pub mod Judging
+pub mod Outcomes
 pub mod Written
 pub mod Decimal
 pub mod Back

@@ -1,8 +1,8 @@
 -- The part of a string lies between its quotes, and that of a number is all of it.
-use Rattle.std.proofs.Common.{◌≡◌, ℕ, ◌+◌, ◌-◌, true, List, [], ◌∷◌, ◌++◌, length, take, Err, sym, refl, ap, ◌∙◌, length-append, arith}
+use Rattle.std.proofs.Common.{◌≡◌, ℕ, ◌-◌, true, List, [], ◌∷◌, ◌++◌, length, take, sym, refl, ap, ◌∙◌, length-append, arith}
 use Rattle.std.proofs.lemmas.List.{take_at}
 use Rattle.text.specs.declared.fault.TextFault.TheVariants.{Forbidden}
-use Rattle.text.specs.Machine.{Tape, Kind, fault, event, ending, value, literal, number, string, run, step, over}
+use Rattle.text.specs.Machine.{Kind, fault, event, ending, value, literal, number, string, run, step, over}
 use Rattle.text.specs.Grammar.{Digits, digits_none, digits_more, Digits1, digits1, minus_none, minus, Int, int_zero, int_more, Frac, frac_none, frac, Sign, sign_none, sign, Exp, exp_none, exp, Number, number as a_number, Hexes, hexes_none, hexes_more, Tails, tails_none, tails_more, Wide, wide_2, wide_e0, wide_e1, wide_ed, wide_ee, wide_f0, wide_f1, wide_f4, Char, ascii, wide, escaped, escaped_hex, Chars, chars_none, chars_more, Str, str, Value, is_false, is_null, is_true, is_object, is_array, is_number, is_string, Object, object_none, object_some, Members, members_end, members_more, Member, member, Array, array_none, array_some, Entries, entries_end, entries_more, text}
 use Rattle.text.specs.Derived.{at}
 use Rattle.text.specs.Canonical.{number_ends}

@@ -9,6 +9,7 @@ pub mod Strings
 pub mod Numbers
 pub mod Grammar
 pub mod Judged
+pub mod Outcomes
 pub mod Length
 pub mod Canonical
 pub mod ReadsBack

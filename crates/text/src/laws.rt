@@ -4,6 +4,7 @@ ghost use Rattle.text.specs.Value.{WritesOne};
 ghost use Rattle.text.specs.Length.{LengthFirst};
 ghost use Rattle.text.specs.Strings.{MatchesAreEqual};
 ghost use Rattle.text.specs.Derived.{Derives};
+ghost use Rattle.text.specs.Outcomes.{GrammarDecides};
 ghost use Rattle.text.specs.TokenParts.{PartsOfGrammar};
 
 // What is written reads back: a canonical text is read, with the tokens, the words and the integers of its value.
@@ -27,4 +28,9 @@ pub fn one_value_stands()
     ensures one { WritesOne }
     ensures derived { Derives }
     ensures parts { PartsOfGrammar }
+{}
+
+// What becomes of a text is the one thing that the grammar says of it: it is read, or it has the one fault.
+pub fn grammar_decides()
+    ensures { GrammarDecides }
 {}

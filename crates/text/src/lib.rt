@@ -12,7 +12,9 @@ pub mod token;
 pub mod value;
 
 pub use fault::{MAX_LENGTH, MAX_LEVELS, TextFault};
-pub use laws::{length_comes_first, matches_are_equal, one_value_stands, written_reads_back};
+pub use laws::{
+    grammar_decides, length_comes_first, matches_are_equal, one_value_stands, written_reads_back,
+};
 pub use number::integer;
 pub use reader::Reader;
 pub use string::{same, spells, spells_ignoring_case, unescaped};
