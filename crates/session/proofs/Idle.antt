@@ -1,5 +1,6 @@
 -- A task without a configure action comes to no plan.
-use Rattle.std.proofs.Common.{◌≡◌, ℕ, true, false, List, Ok, sym, ◌∙◌, subst}
+use Rattle.std.proofs.Common.{◌≡◌, ℕ, true, false, List, [], ◌∷◌, ◌++◌, Ok, Err, sym, ap, ◌∙◌, subst, inl, inr}
+use Rattle.std.proofs.lemmas.List.{append-nil}
 use Rattle.std.specs.List.{AllByRecursion}
 use Rattle.table.specs.declared.place.Place.{Place}
 use Rattle.table.specs.ComesTo.{ComesTo}
@@ -11,6 +12,8 @@ use Rattle.scanner.specs.Meaning.{Catalogue}
 use Rattle.negotiation.specs.Met.{IsConfigure, IsOther, NoConfigure, SaysWhatIs}
 use Rattle.negotiation.specs.Tellings.{in_room}
 use Rattle.negotiation.specs.Verdicts.{Outcome, unchanged, planned, rejected, OneVerdict}
+use Rattle.session.specs.declared.fault.SubmitFault.{SubmitFault}
+use Rattle.session.specs.Submissions.{Submission, IsTask, Adds, AllAccepted}
 use Rattle.session.proofs.Tasks.{all_at, one_task}
 
 other_configures : (a : ActionObject) → IsOther a → IsConfigure a → ⊥
@@ -29,3 +32,15 @@ pub not_configured : ComeToOne → (k : Catalogue) → SaysWhatIs k → (t : Lis
 not_configured come k says t room rows p acts found o new r q asked read n d e =
     let same = one_task come t room acts found asked (subst (λ m. ComesTo t m (Ok found)) r read) in
     no_plan k says found (subst NoConfigure same n) o (subst (λ x. OneVerdict k x found o) q d) new e
+
+-- what a turn without a configure action adds comes of a refused text, or of a task without such an action
+pub added_idle : (s : Submission) (acts : List ActionObject) (P : Type 0) → AllAccepted (s ∷ []) acts → NoConfigure acts → ((own : List ActionObject) → IsTask s own → NoConfigure own → P) → ((e : SubmitFault) → s.answer ≡ Err e → P) → P
+added_idle s acts P h n task refused = by h.2
+  where
+    none : h.1 ≡ []
+    none = h.3
+    same : acts ≡ h.0
+    same = h.4 ∙ (ap (λ z. h.0 ++ z) none ∙ append-nil h.0)
+    by : Adds s h.0 → P
+    by (inl a) = task h.0 a.1 (subst NoConfigure same n)
+    by (inr a) = refused a.0 a.1
