@@ -1,5 +1,5 @@
 // The letters of the 64 names, end to end: 6 sources, 5 pixel formats, 37 attributes, 16 value words.
-// One table and one list of starts is a rule of the project: that names are distinct is one computed check over it.
+// One table and one list of starts, so that one computed check over them shows the names of each list to be distinct.
 pub const LETTERS: [u8; 665] =
     *b"feederfeederFrontfeederRearflatBedplanetarystoragebw1gray8gray16rgb24rgb48alarmsalarmVolumeautomaticDeskewautomaticSizebarcodesbitDepthReductionbrightnesscompressioncontinuousScancontrastcroppingdiscardBlankImagesdoubleFeedDetectiondoubleFeedDetectionLengthdoubleFeedDetectionResponsedoubleFeedDetectionSensitivityflipRotationheightimageMergeimageMergeHeightThresholdinvertjpegQualitymicrmirrornoiseFilteroverScannumberOfSheetsoffsetXoffsetYpatchCodesresolutionrotationsheetHandlingsheetSizethresholduncalibratedImagewidthoffonautomaticnonegroup4jpegdynamicerrorDiffusionthresholdingmaximumminimumsheetSizefrontAboveRearfrontBelowRearfrontLeftOfRearfrontRightOfRear";
 
