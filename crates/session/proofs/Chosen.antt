@@ -19,15 +19,15 @@ pub submitted_as : (t : Turn) (a : Asked) (x : Answer) → asked t ≡ a → t.a
 submitted_as t a x q y = ap (λ z. submitted_by z t.answer) q ∙ ap (submitted_by a) y
 
 -- accepted actions, one list after the other
-accepted_join : (l m : List Submission) (as bs : List ActionObject) → AllAccepted l as → AllAccepted m bs → AllAccepted (l ++ m) (as ++ bs)
-accepted_join [] m as bs e g = subst (AllAccepted m) (sym (ap (λ z. z ++ bs) e)) g
-accepted_join (x ∷ l) m as bs h g = (h.0, h.1 ++ bs, h.2, accepted_join l m h.1 bs h.3 g, ap (λ z. z ++ bs) h.4 ∙ append_assoc h.0 h.1 bs)
+accepted_join : (l m : List Submission) (xs bs : List ActionObject) → AllAccepted l xs → AllAccepted m bs → AllAccepted (l ++ m) (xs ++ bs)
+accepted_join [] m xs bs e g = subst (AllAccepted m) (sym (ap (λ z. z ++ bs) e)) g
+accepted_join (x ∷ l) m xs bs h g = (h.0, h.1 ++ bs, h.2, accepted_join l m h.1 bs h.3 g, ap (λ z. z ++ bs) h.4 ∙ append_assoc h.0 h.1 bs)
 
-accepted_more : (since : List Turn) (t : Turn) (as acts : List ActionObject) → AllAccepted (submissions since) as → AllAccepted (submitted_in t) acts → AllAccepted (submissions (since ++ t ∷ [])) (as ++ acts)
-accepted_more since t as acts h g =
-    subst (λ l. AllAccepted l (as ++ acts))
+accepted_more : (since : List Turn) (t : Turn) (xs acts : List ActionObject) → AllAccepted (submissions since) xs → AllAccepted (submitted_in t) acts → AllAccepted (submissions (since ++ t ∷ [])) (xs ++ acts)
+accepted_more since t xs acts h g =
+    subst (λ l. AllAccepted l (xs ++ acts))
     (sym (flat_map-append submitted_in since (t ∷ []) ∙ ap (λ m. submissions since ++ m) (append-nil (submitted_in t))))
-    (accepted_join (submissions since) (submitted_in t) as acts h g)
+    (accepted_join (submissions since) (submitted_in t) xs acts h g)
 
 -- the actions that a text adds
 pub accepted_in : (t : Turn) (text : List ℕ) (room : ℕ) (r : Result (Unit {0}) SubmitFault) (acts : List ActionObject) → asked t ≡ submit text room → t.answer ≡ Submitted r → Adds (record { text = text; room = room; answer = r }) acts → AllAccepted (submitted_in t) acts
