@@ -1,4 +1,4 @@
--- Values that an entry offers or a ban forbids: one word, or the numbers of a range.
+-- Values that an entry offers: one word, or the numbers of a range.
 use Rattle.std.specs.Prelude.{Bool, false}
 use Rattle.names.specs.declared.kinds.Value.{Value}
 use Rattle.names.specs.declared.kinds.Value.TheVariants as values

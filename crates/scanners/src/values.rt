@@ -1,4 +1,4 @@
-// Values that an entry offers or a ban forbids.
+// Values that an entry offers.
 ghost use Rattle.std.specs.Prelude.{◌≡◌};
 ghost use Rattle.scanners.specs.Values.{is_one_of};
 
