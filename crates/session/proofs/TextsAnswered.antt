@@ -67,7 +67,7 @@ module _ (k : Catalogue) (says : SaysWhatIs k) (text : List ℕ) (room : ℕ) wh
 
   by_outcome : (acts : List ActionObject) (xs ys : List Item) (r : Told) → task text room ≡ Ok acts → (o : Outcome) → OneVerdict k outside acts o → Tells o xs ys r → At r
   by_outcome acts xs ys r v unchanged d z = subst At (sym z.0) (accepted acts v (judged_met k acts ((says.outcome acts unchanged).0 d).1))
-  by_outcome acts xs ys r v (planned zs) d z = subst At (sym z.0) (accepted acts v (judged_met k acts (((says.outcome acts (planned zs)).0 d).all)))
+  by_outcome acts xs ys r v (planned b zs) d z = subst At (sym z.0) (accepted acts v (judged_met k acts (((says.outcome acts (planned b zs)).0 d).all)))
   by_outcome acts xs ys r v (rejected q) d z = subst At (sym z) (let n = (says.outcome acts (rejected q)).0 d in turned_down acts q v (judged_unmet k acts q n) n)
 
   by_task : (xs ys : List Item) (r : Told) (v : Result (List ActionObject) TableFault) → task text room ≡ v → Submitted k outside v xs ys r → At r

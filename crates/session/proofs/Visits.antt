@@ -1,6 +1,6 @@
 -- A fold in any state is one over the visits that the events make: what keeps them all loses nothing.
 use Rattle.std.proofs.Common.{◌≡◌, ℕ, suc, Bool, true, false, List, [], ◌∷◌, sym, refl, ap, ◌∙◌}
-use Rattle.text.specs.Machine.{Tape, good, fault, event, tape, Kind, end_object, end_array}
+use Rattle.text.specs.Machine.{Tape, good, fault, event, tape, end_object, end_array}
 use Rattle.text.specs.Canonical.{Plain, Fields, Items, word, integer, object_of, array_of, no_field, a_field, no_item, an_item, written, past_fields, past_items}
 use Rattle.text.specs.ReadsBack.{Folding, fold_tape, fold_value, fold_fields, fold_items, FoldsBack, Visit}
 
