@@ -1,20 +1,14 @@
 -- Ban calls, and piles of locks.
-use Rattle.std.proofs.Common.{◌≡◌, Bool, true, false, cond, not, ◌&&◌, ◌||◌, leb, List, [], ◌∷◌, ◌++◌, length, ℤ, pos, Some, Result, sym, refl, ap, ◌∙◌, subst}
+use Rattle.std.proofs.Common.{◌≡◌, Bool, true, false, cond, not, ◌&&◌, ◌||◌, leb, List, [], ◌∷◌, ◌++◌, length, Some, Result, sym, refl, ap, ◌∙◌, subst}
 use Rattle.std.proofs.lemmas.List.{length_push}
-use Rattle.std.proofs.lemmas.Bool.{and_right}
+use Rattle.std.proofs.lemmas.List.Folds.{list_any-append}
 use Rattle.std.proofs.Math.Bool.{or-false}
 use Rattle.names.specs.declared.kinds.Attribute.{Attribute}
 use Rattle.names.specs.declared.kinds.Value.{Value}
-use Rattle.names.specs.declared.kinds.Value.TheVariants as values
-use Rattle.names.specs.Same.{same_attribute}
 use Rattle.lock.specs.declared.ban.Ban.{Ban}
 use Rattle.scanners.specs.declared.fault.FillFault.{FillFault}
-use Rattle.scanners.specs.declared.range.Range.{Range}
-use Rattle.scanners.specs.declared.values.Values.TheVariants as kinds
-use Rattle.lock.specs.Bans.{Bans, Forbidden, forbids, forbidden, most_bans, room_for, a_span, locked, either, PileBansTheUnion, PileInAnyOrder}
+use Rattle.lock.specs.Bans.{Bans, Forbidden, forbids, forbidden, most_bans, room_for, locked, either, PileBansTheUnion, PileInAnyOrder}
 use Rattle.scanners.specs.Faults.{first_fault, told}
-use Rattle.scanners.specs.Ranges.{in_range}
-use Rattle.scanners.proofs.Searches.{any_push}
 
 -- a ban that the numbers make: it is added where there is room
 add : (full : Bool) (call : Forbidden) (old : List Ban) (b : Ban) → leb most_bans (length old) ≡ full → ((a : Attribute) (v : Value) → forbids b a v ≡ call a v)
@@ -25,7 +19,7 @@ add false call old b e is =
     record {
       says = sym (ap (λ t. told (first_fault false false false t)) e);
       count = length_push old b;
-      after = λ a v. any_push (λ x. forbids x a v) old b ∙ ap (λ t. forbidden old a v || t) (is a v);
+      after = λ a v. list_any-append (λ x. forbids x a v) old (b ∷ []) ∙ ap (λ t. forbidden old a v || t) (or-false (forbids b a v) ∙ is a v);
     }
 
 pub added : (call : Forbidden) (old new : List Ban) (b : Ban) (r : Result (Unit {0}) FillFault)
@@ -37,13 +31,6 @@ added call old new b r is answer list =
     let full = leb most_bans (length old) in
     let one = add full call old b refl is in
     subst (λ x. Bans (Some call) old x r) (sym list) (subst (λ x. Bans (Some call) old (cond full old (old ++ b ∷ [])) x) (sym answer) one)
-
--- what the ban of a span forbids
-pub span_is : (a : Attribute) (r : Range) (low high : ℤ) → r.low ≡ low → r.high ≡ high → pos r.step ≡ pos 1
-    → (x : Attribute) (v : Value) → forbids (record { attribute = a; values = kinds.Range r }) x v ≡ a_span a low high x v
-span_is a r low high l h s x (values.Word v) = and_right (same_attribute a x) false refl
-span_is a r low high l h s x (values.Number n) =
-    let one : r.step ≡ 1 = cc in λ i. same_attribute a x && in_range (l i) (h i) (one i) n
 
 -- what is left of an offer under two bans
 both : (o x y : Bool) → ((o && not x) && not y) ≡ (o && not (x || y))

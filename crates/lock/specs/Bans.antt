@@ -1,5 +1,6 @@
 -- What a lock bans, and what is left to offer.
 use Rattle.std.specs.Prelude.{◌≡◌, ℕ, ◌+◌, Bool, false, cond, not, ◌&&◌, ◌||◌, List, length, ℤ, is_some, is_ok, Some, None, Option, Result, int_le, nat_le}
+use Rattle.std.specs.List.{list_any}
 use Rattle.names.specs.declared.kinds.Attribute.{Attribute}
 use Rattle.names.specs.declared.kinds.Word.{Word}
 use Rattle.names.specs.declared.kinds.Value.{Value}
@@ -7,11 +8,10 @@ use Rattle.names.specs.declared.kinds.Value.TheVariants as values
 use Rattle.names.specs.Same.{same_attribute, same_word}
 use Rattle.scanner.specs.Meaning.{Catalogue}
 use Rattle.lock.specs.declared.ban.Ban.{Ban}
+use Rattle.lock.specs.declared.ban.Banned.{Banned}
+use Rattle.lock.specs.declared.ban.Banned.TheVariants as kinds
 use Rattle.scanners.specs.declared.fault.FillFault.{FillFault}
 use Rattle.scanners.specs.Faults.{first_fault, told}
-use Rattle.scanners.specs.Ranges.{in_range}
-use Rattle.scanners.specs.Search.{any_of}
-use Rattle.scanners.specs.Values.{is_one_of}
 
 -- as many bans as a lock has room for
 abbrev pub most_bans : ℕ
@@ -21,13 +21,20 @@ most_bans = 16
 abbrev pub Forbidden : Type 0
 Forbidden = Attribute → Value → Bool
 
+-- a word bans itself, and a span the numbers from its low end to its high one
+abbrev pub is_banned : Banned → Value → Bool
+is_banned (kinds.Word w) (values.Word v) = same_word w v
+is_banned (kinds.Word w) (values.Number n) = false
+is_banned (kinds.Span low high) (values.Word v) = false
+is_banned (kinds.Span low high) (values.Number n) = int_le low n && int_le n high
+
 -- what one ban forbids
 abbrev pub forbids : Ban → Forbidden
-forbids b a v = same_attribute b.attribute a && is_one_of b.values v
+forbids b a v = same_attribute b.attribute a && is_banned b.values v
 
 -- what some ban of a list forbids
 abbrev pub forbidden : List Ban → Forbidden
-forbidden bans a v = any_of (λ b. forbids b a v) bans
+forbidden bans a v = list_any (λ b. forbids b a v) bans
 
 -- A catalogue under a lock: what is forbidden is not offered, and all else is as below.
 abbrev pub locked : Catalogue → Forbidden → Catalogue
@@ -42,13 +49,11 @@ locked k banned = record {
 
 -- one word of an attribute
 abbrev pub a_word : Attribute → Word → Forbidden
-a_word a w b (values.Word v) = same_attribute a b && same_word w v
-a_word a w b (values.Number n) = false
+a_word a w = forbids (record { attribute = a; values = kinds.Word w })
 
 -- the numbers of an attribute from low to high
 abbrev pub a_span : Attribute → ℤ → ℤ → Forbidden
-a_span a low high b (values.Word v) = false
-a_span a low high b (values.Number n) = same_attribute a b && in_range low high 1 n
+a_span a low high = forbids (record { attribute = a; values = kinds.Span low high })
 
 -- what the ban of a word forbids, given by numbers; none where a number is unknown
 abbrev pub word_ban : Option Attribute → Option Word → Option Forbidden

@@ -1,13 +1,15 @@
 // A lock over any scanner: it bans values from what is offered, and all else is as below.
 ghost use Rattle.std.specs.Prelude.{◌≡◌, ◌≤◌, not, ◌&&◌, [], ◌∷◌, ◌++◌, length, if◌then◌else◌, vec_len, vec_capacity, MatchResult, nat_le};
+ghost use Rattle.scanner.specs.Meaning.{Agree, powered, enabling, setting};
 ghost use Rattle.names.specs.Numbers.{attribute_numbered, word_numbered};
 ghost use Rattle.lock.specs.Bans.{Bans, forbidden, locked, most_bans, word_ban, span_ban, room_for, either, PileBansTheUnion, PileInAnyOrder};
+ghost use Rattle.lock.specs.LockedPoints.{locked_keeps};
 ghost use Rattle.std.proofs.Common.{rules};
 
-use crate::ban::{Ban, Forbidding};
+use crate::ban::{Ban, Banned, Forbidding};
 use names::{Attribute, Named, PixelFormat, Source, Value, Word};
 use scanner::{Point, Scanner};
-use scanners::{FillFault, Range, Values, any};
+use scanners::{FillFault, any};
 use std::alloc::Global;
 
 const MOST_BANS: usize = 16;
@@ -52,7 +54,7 @@ impl<S: Scanner> Lock<S> {
         let word = Word::from_number(word).ok_or(FillFault::BadNumber)?;
         self.ban(Ban {
             attribute,
-            values: Values::Word(word),
+            values: Banned::Word(word),
         })
     }
 
@@ -62,10 +64,12 @@ impl<S: Scanner> Lock<S> {
         ensures bans { Bans (span_ban (attribute_numbered attribute) low high) self.old.bans.items self.new.bans.items result }
     {
         let attribute = Attribute::from_number(attribute).ok_or(FillFault::BadNumber)?;
-        let range = Range::new(low, high, 1).ok_or(FillFault::BadNumber)?;
+        if low > high {
+            return Err(FillFault::BadNumber);
+        }
         self.ban(Ban {
             attribute,
-            values: Values::Range(range),
+            values: Banned::Span(low, high),
         })
     }
 
@@ -96,6 +100,8 @@ impl<S: Scanner> Scanner for Lock<S> {
     ghost home_source_offered = { Prim.search rules };
 
     ghost home_format_offered = { Prim.search rules };
+
+    ghost keeps_to_points = { λ x. locked_keeps (S.catalogue x.below) (S.state x.below) (forbidden x.bans.items) (S.keeps_to_points x.below) };
 
     fn offers_source(&self, source: Source) -> bool {
         self.below.offers_source(source)
@@ -129,15 +135,29 @@ impl<S: Scanner> Scanner for Lock<S> {
         self.below.current(point)
     }
 
-    fn reset(&mut self) {
+    fn reset(&mut self)
+        ensures same { locked (S.catalogue self.new.below) (forbidden self.new.bans.items) ≡ locked (S.catalogue self.old.below) (forbidden self.old.bans.items) }
+        ensures after { Agree (S.state self.new.below) (powered (S.catalogue self.old.below)) }
+        ensures bans { self.new.bans.items ≡ self.old.bans.items }
+    {
         self.below.reset();
     }
 
-    fn enable(&mut self, source: Source, format: PixelFormat) -> bool {
+    fn enable(&mut self, source: Source, format: PixelFormat) -> bool
+        ensures same { locked (S.catalogue self.new.below) (forbidden self.new.bans.items) ≡ locked (S.catalogue self.old.below) (forbidden self.old.bans.items) }
+        ensures answer { result ≡ (S.catalogue self.old.below).offers_format source format }
+        ensures after { Agree (S.state self.new.below) (if result then enabling (S.state self.old.below) source format else S.state self.old.below) }
+        ensures bans { self.new.bans.items ≡ self.old.bans.items }
+    {
         self.below.enable(source, format)
     }
 
-    fn set(&mut self, point: Point, value: Value) -> bool {
+    fn set(&mut self, point: Point, value: Value) -> bool
+        ensures same { locked (S.catalogue self.new.below) (forbidden self.new.bans.items) ≡ locked (S.catalogue self.old.below) (forbidden self.old.bans.items) }
+        ensures answer { result ≡ (locked (S.catalogue self.old.below) (forbidden self.old.bans.items)).offers_value point value }
+        ensures after { Agree (S.state self.new.below) (if result then setting (S.state self.old.below) point value else S.state self.old.below) }
+        ensures bans { self.new.bans.items ≡ self.old.bans.items }
+    {
         !self.forbids(point.attribute, value) && self.below.set(point, value)
     }
 }

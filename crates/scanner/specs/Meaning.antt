@@ -1,5 +1,5 @@
 -- What a scanner means: a catalogue, which never changes, and a state.
-use Rattle.std.specs.Prelude.{◌≡◌, Bool, true, false, cond, ◌&&◌, Some, Option}
+use Rattle.std.specs.Prelude.{◌≡◌, Bool, true, false, cond, ◌&&◌, is_some, Some, Option}
 use Rattle.names.specs.declared.kinds.Source.{Source}
 use Rattle.names.specs.declared.kinds.PixelFormat.{PixelFormat}
 use Rattle.names.specs.declared.kinds.Value.{Value}
@@ -19,6 +19,15 @@ pub record Catalogue : Type 0 where
 pub record State : Type 0 where
   pub enabled : Source → PixelFormat → Bool
   pub current : Point → Option Value
+
+-- Nothing is said off the points: a format is offered at an offered source alone, an attribute at an offered pair alone,
+-- a value at a point alone; an offered pair alone is enabled; and a current value stands at each point and nowhere else.
+pub record KeepsToPoints (k : Catalogue) (st : State) : Type 0 where
+  pub formats : (s : Source) (f : PixelFormat) → k.offers_format s f ≡ true → k.offers_source s ≡ true
+  pub attributes : (p : Point) → is_some (k.power_on p) ≡ true → k.offers_format p.source p.format ≡ true
+  pub values : (p : Point) (v : Value) → k.offers_value p v ≡ true → is_some (k.power_on p) ≡ true
+  pub enabled : (s : Source) (f : PixelFormat) → st.enabled s f ≡ true → k.offers_format s f ≡ true
+  pub current : (p : Point) → is_some (st.current p) ≡ is_some (k.power_on p)
 
 abbrev pub same_point : Point → Point → Bool
 same_point a b = same_source a.source b.source && (same_format a.format b.format && same_attribute a.attribute b.attribute)

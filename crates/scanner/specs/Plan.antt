@@ -58,3 +58,7 @@ pub record LastLine (plan : List Item) (p : Point) (v : Value) : Type 0 where
 pub record InForce (k : Catalogue) (plan : List Item) (st : State) : Type 0 where
   pub pairs : (s : Source) (f : PixelFormat) → Decides (st.enabled s f) (InPlan plan (items.Pair s f))
   pub points : (p : Point) → ((v : Value) × LastLine plan p v × (st.current p ≡ Some v)) ⊎ (NoLine plan p × (st.current p ≡ k.power_on p))
+
+-- A plan whose items are all offered is in force in the state that it leaves.
+pub record OfferedInForce : Type 0 where
+  pub left : (k : Catalogue) (plan : List Item) → AllOffered k plan → InForce k plan (plan_put k plan)

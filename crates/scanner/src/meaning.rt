@@ -3,7 +3,7 @@
 // That the catalogue stays is said at each of the three calls that write: it ties two states, which no invariant can.
 ghost use Rattle.std.specs.Prelude.{◌≡◌, true, is_some, if◌then◌else◌};
 ghost use Rattle.names.specs.declared.kinds.Source.{Source};
-ghost use Rattle.scanner.specs.Meaning.{Catalogue, State, Agree, powered, enabling, setting};
+ghost use Rattle.scanner.specs.Meaning.{Catalogue, State, KeepsToPoints, Agree, powered, enabling, setting};
 
 use crate::point::Point;
 use names::{PixelFormat, Source, Value};
@@ -59,4 +59,7 @@ pub trait Scanner {
     ghost home_source_offered: { (x : Self) → (catalogue x).offers_source (catalogue x).home_source ≡ true };
 
     ghost home_format_offered: { (x : Self) (s : Source) → (catalogue x).offers_source s ≡ true → (catalogue x).offers_format s ((catalogue x).home_format s) ≡ true };
+
+    // Both speak of offered sources, offered pairs and points, and of nothing else.
+    ghost keeps_to_points: { (x : Self) → KeepsToPoints (catalogue x) (state x) };
 }

@@ -1,6 +1,6 @@
 // A plan, and how it is put into a scanner.
 ghost use Rattle.std.specs.Prelude.{◌≡◌, if◌then◌else◌};
-ghost use Rattle.scanner.specs.Plan.{item_offered, item_put, offered_of, plan_put, AllOffered, InForce};
+ghost use Rattle.scanner.specs.Plan.{item_offered, item_put, offered_of, plan_put, AllOffered, InForce, OfferedInForce};
 
 use crate::meaning::Scanner;
 use crate::point::Point;
@@ -41,3 +41,8 @@ pub fn put_in<S: Scanner>(scanner: &mut S, plan: &[Item])
         let _ = put_item(scanner, *item);
     }
 }
+
+// What is offered comes into force.
+pub fn offered_plans_come_into_force()
+    ensures { OfferedInForce }
+{}

@@ -8,6 +8,9 @@ use scanners::{FillFault, Flatbed};
 use std::io;
 use table_scanner::{Fill, Given, TableScanner};
 
+#[cfg(test)]
+mod tests;
+
 const GRAY: Point = Point {
     source: Source::FlatBed,
     format: PixelFormat::Gray8,

@@ -1,2 +1,2 @@
 mod Steps
-pub mod Searches
+mod Searches

@@ -4,3 +4,4 @@ pub mod Faults
 pub mod Ranges
 pub mod Values
 pub mod Lending
+pub mod FlatbedPoints

@@ -1,5 +1,5 @@
 -- The first entry of a list that meets a test.
-use Rattle.std.specs.Prelude.{◌≡◌, ℕ, ◌<◌, Bool, true, false, ◌||◌, List, [], ◌∷◌, length, Option, MatchOption, slice_index_or}
+use Rattle.std.specs.Prelude.{◌≡◌, ℕ, ◌<◌, Bool, true, false, List, length, Option, MatchOption, slice_index_or}
 
 -- every entry before the place n fails the test
 abbrev pub NoneBefore : {X : Type 0} → (X → Bool) → List X → ℕ → Type 0
@@ -9,8 +9,3 @@ NoneBefore {X} test xs n = (k : ℕ) (d : X) → k < n → test (slice_index_or 
 abbrev pub FirstOf : {X : Type 0} → (X → Bool) → List X → Option ℕ → Type 0
 FirstOf {X} test xs found =
     MatchOption found (NoneBefore test xs (length xs)) (λ i. (i < length xs) × ((d : X) → test (slice_index_or xs i d) ≡ true) × NoneBefore test xs i)
-
--- some entry meets the test
-abbrev pub any_of : {X : Type 0} → (X → Bool) → List X → Bool
-any_of test [] = false
-any_of test (x ∷ xs) = test x || any_of test xs

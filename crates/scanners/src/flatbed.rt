@@ -4,13 +4,14 @@ ghost use Rattle.names.specs.declared.kinds.Attribute.{Attribute};
 ghost use Rattle.names.specs.Same.{same_attribute};
 ghost use Rattle.scanner.specs.Meaning.{Agree, powered};
 ghost use Rattle.scanners.specs.Flatbed.{flatbed_catalogue, flatbed_state, settings_at, held_at, by_attribute, offered_resolution, offered_brightness, offered_compression};
+ghost use Rattle.scanners.specs.FlatbedPoints.{keeps_to_points};
 ghost use Rattle.scanners.specs.Lending.{LendsSettings};
 ghost use Rattle.std.specs.Borrow.{sem};
 ghost use Rattle.std.specs.Option.{option_copied, option_copied_mut};
 ghost use Rattle.std.proofs.Common.{rules};
 
 use names::{Attribute, PixelFormat, Source, Value, Word};
-use scanner::{Point, Scanner};
+use scanner::{Point, Scanner, same_points_are_one};
 
 const HOME_SOURCE: Source = Source::FlatBed;
 
@@ -92,6 +93,7 @@ impl Settings {
         ensures enabled { self.new.enabled ≡ self.old.enabled }
         ensures held { (a : Attribute) → held_at (Some self.new) a ≡ (if same_attribute attribute a then by_attribute a (Some value) (Some value) (Some value) None else held_at (Some self.old) a) }
     {
+        same_points_are_one();
         match attribute {
             Attribute::Resolution => self.resolution = value,
             Attribute::Brightness => self.brightness = value,
@@ -144,6 +146,8 @@ impl Scanner for Flatbed {
     ghost home_source_offered = { Prim.search rules };
 
     ghost home_format_offered = { Prim.search rules };
+
+    ghost keeps_to_points = { keeps_to_points };
 
     fn offers_source(&self, source: Source) -> bool {
         source == Source::FlatBed

@@ -13,16 +13,13 @@ use Rattle.session.specs.declared.fault.SubmitFault.{SubmitFault}
 use Rattle.session.specs.declared.fault.SubmitFault.TheVariants.{Table, Rejected}
 use Rattle.session.specs.Submitted.{Submitted, Tells}
 use Rattle.session.specs.Promise.{RejectedExactly, TextAnswered}
-use Rattle.session.proofs.Tasks.{judged_met, judged_unmet}
+use Rattle.session.proofs.Tasks.{same_task, judged_met, judged_unmet}
 
 abbrev Told : Type 0
 Told = Result (Unit {0}) SubmitFault
 
 ok_err : {P : Type 0} (acts : List ActionObject) (e : TableFault) → ◌≡◌ {A = Result (List ActionObject) TableFault} (Ok acts) (Err e) → P
 ok_err acts e h = absurd (cc)
-
-same_task : (acts bs : List ActionObject) → ◌≡◌ {A = Result (List ActionObject) TableFault} (Ok acts) (Ok bs) → acts ≡ bs
-same_task acts bs h = cc
 
 same_fault : (e f : TableFault) → ◌≡◌ {A = Result (List ActionObject) TableFault} (Err e) (Err f) → e ≡ f
 same_fault e f h = cc

@@ -37,22 +37,22 @@ replies =
     (codes "{\"actions\":[{\"action\":\"configure\",\"streams\":[{\"sources\":[{\"source\":\"flatBed\",\"pixelFormats\":[{\"pixelFormat\":\"gray8\"}]}]}]}]}")
     ∷ shown
     (
-      Item.Source Source.FeederFront
-      ∷ Item.Pair Source.FeederFront PixelFormat.Bw1
-      ∷ line Source.FeederFront PixelFormat.Bw1 Attribute.Resolution (Value.Number (pos 300))
-      ∷ line Source.FeederFront PixelFormat.Bw1 Attribute.Threshold (Value.Number (pos 128))
-      ∷ Item.Pair Source.FeederFront PixelFormat.Gray8
-      ∷ Item.Source Source.FeederRear
-      ∷ Item.Pair Source.FeederRear PixelFormat.Bw1
-      ∷ [])
+    Item.Source Source.FeederFront
+    ∷ Item.Pair Source.FeederFront PixelFormat.Bw1
+    ∷ line Source.FeederFront PixelFormat.Bw1 Attribute.Resolution (Value.Number (pos 300))
+    ∷ line Source.FeederFront PixelFormat.Bw1 Attribute.Threshold (Value.Number (pos 128))
+    ∷ Item.Pair Source.FeederFront PixelFormat.Gray8
+    ∷ Item.Source Source.FeederRear
+    ∷ Item.Pair Source.FeederRear PixelFormat.Bw1
+    ∷ [])
     (codes "{\"actions\":[{\"action\":\"configure\",\"streams\":[{\"sources\":[{\"source\":\"feederFront\",\"pixelFormats\":[{\"pixelFormat\":\"bw1\",\"attributes\":[{\"attribute\":\"resolution\",\"values\":[{\"value\":300}]},{\"attribute\":\"threshold\",\"values\":[{\"value\":128}]}]},{\"pixelFormat\":\"gray8\"}]},{\"source\":\"feederRear\",\"pixelFormats\":[{\"pixelFormat\":\"bw1\"}]}]}]}]}")
     ∷ shown
     (
-      Item.Source Source.FlatBed
-      ∷ Item.Pair Source.FlatBed PixelFormat.Rgb24
-      ∷ line Source.FlatBed PixelFormat.Rgb24 Attribute.Brightness (Value.Number (negsuc 24))
-      ∷ line Source.FlatBed PixelFormat.Rgb24 Attribute.Compression (Value.Word Word.Jpeg)
-      ∷ [])
+    Item.Source Source.FlatBed
+    ∷ Item.Pair Source.FlatBed PixelFormat.Rgb24
+    ∷ line Source.FlatBed PixelFormat.Rgb24 Attribute.Brightness (Value.Number (negsuc 24))
+    ∷ line Source.FlatBed PixelFormat.Rgb24 Attribute.Compression (Value.Word Word.Jpeg)
+    ∷ [])
     (codes "{\"actions\":[{\"action\":\"configure\",\"streams\":[{\"sources\":[{\"source\":\"flatBed\",\"pixelFormats\":[{\"pixelFormat\":\"rgb24\",\"attributes\":[{\"attribute\":\"brightness\",\"values\":[{\"value\":-25}]},{\"attribute\":\"compression\",\"values\":[{\"value\":\"jpeg\"}]}]}]}]}]}]}")
     ∷ []
 

@@ -1,6 +1,7 @@
 pub mod Faults
 pub mod Limits
 pub mod Levels
+pub mod Same
 pub mod Words
 pub mod Drafts
 pub mod Steps

@@ -6,7 +6,7 @@ ghost use Rattle.table.specs.declared.fault.TableFault.TheVariants.{Text};
 use text::TextFault;
 
 // The rules of form that a text can break.
-#[derive(Clone, Copy, PartialEq, Eq, Debug)]
+#[derive(Clone, Copy, Debug)]
 pub enum FormRule {
     // The outermost value is no object.
     OutermostNoObject,

@@ -111,7 +111,8 @@ impl Key {
         )
     }
 
-    // The one member name that the bytes can be, by how many there are and the third of them.
+    // The member name that is tried first, by how many bytes there are and the third of them: the one that they can spell as they stand.
+    // A wrong one would cost time and nothing else, so no contract tells which it is.
     fn candidate(name: &[u8]) -> Key {
         match (name.len(), name.get(2).copied()) {
             (4, _) => Key::Name,

@@ -1,11 +1,22 @@
 // What holds of the definitions that the contracts cite.
+ghost use Rattle.std.specs.Prelude.{◌≡◌};
+ghost use Rattle.table.specs.declared.exception.Exception.{Exception};
+ghost use Rattle.table.specs.declared.keys.Key.{Key};
+ghost use Rattle.table.specs.declared.level.Level.{Level};
+ghost use Rattle.table.specs.declared.record.Verb.{Verb};
 ghost use Rattle.table.specs.Laws.{Order, ValueDecides, TextsJudged};
+ghost use Rattle.table.specs.Levels.{same_level};
 ghost use Rattle.table.specs.Rows.{RowsShow};
+ghost use Rattle.table.specs.Same.{same_exception, same_key, same_verb};
 ghost use Rattle.table.specs.Views.{GoThrough};
 ghost use Rattle.table.specs.Within.{TasksWithin};
 ghost use Rattle.table.specs.Worked.{Worked};
 ghost use Rattle.table.specs.Words.{KeysApart};
 
+use crate::exception::Exception;
+use crate::keys::Key;
+use crate::level::Level;
+use crate::record::Verb;
 use text::{length_comes_first, one_value_stands};
 
 // The faults of a text come in this order.
@@ -45,4 +56,12 @@ pub fn worked_texts_come_out()
 // No two member names are the same.
 pub fn member_names_differ()
     ensures { KeysApart }
+{}
+
+// Two levels, member names, exceptions or verbs are equal where they are the same one.
+pub fn equality_stands()
+    ensures levels { (a b : Level) → ⟦<Level as PartialEq>⟧.eq a b ≡ same_level a b }
+    ensures keys { (a b : Key) → ⟦<Key as PartialEq>⟧.eq a b ≡ same_key a b }
+    ensures exceptions { (a b : Exception) → ⟦<Exception as PartialEq>⟧.eq a b ≡ same_exception a b }
+    ensures verbs { (a b : Verb) → ⟦<Verb as PartialEq>⟧.eq a b ≡ same_verb a b }
 {}

@@ -4,7 +4,6 @@
 mod draft;
 mod exception;
 mod fault;
-mod inside;
 mod keys;
 pub mod laws;
 mod level;
@@ -17,9 +16,8 @@ mod tally;
 
 pub use exception::Exception;
 pub use fault::{FormRule, TableFault};
-pub use inside::Inside;
 pub use level::Level;
-pub use place::Place;
+pub use place::{Inside, Place};
 pub use read::read_task;
 pub use record::{Head, Record, Verb, Wanted};
 pub use text::Placed;

@@ -13,7 +13,6 @@ ghost use Rattle.table.specs.Works.{stored, absent_if, ReadsKnown, ReadsParts, R
 
 use crate::draft::Draft;
 use crate::fault::{FormRule, TableFault};
-use crate::inside::Inside;
 use crate::keys::Key;
 use crate::level::Level;
 use crate::limits::MAX_WEIGHT;
@@ -172,7 +171,7 @@ impl Reading<'_, '_> {
         ensures place { place.new ≡ place.old }
         ensures reads { (t : List ℕ) → self.old.reader.text.now ≡ t → ReadsObject t levels (at_members draft nothing) self.old self.new result }
     {
-        let inside = Inside::enter(place, draft.level, draft.head.index);
+        let inside = place.enter(draft.level, draft.head.index);
         self.members(inside.place, levels, draft)
     }
 

@@ -24,7 +24,7 @@ pub enum Verb {
 
 // What a source or pixel format object asks for by its word: three outcomes, each with a meaning of its own,
 // which an Option in a Result would not name.
-#[derive(Clone, Copy, PartialEq, Eq)]
+#[derive(Clone, Copy)]
 pub enum Wanted<T> {
     Any,
     Named(T),

@@ -2,6 +2,7 @@
 use Rattle.std.specs.Prelude.{◌≡◌, ℕ, ◌<◌, Bool, true, false, cond, ◌&&◌, List, [], ◌∷◌, map, length, Some, vec_items, Vec, slice_index_or, slice_set, refl}
 use Rattle.std.proofs.Common.{sym, ap, subst, ◌∙◌, inl, inr}
 use Rattle.std.specs.Vec.{with_items}
+use Rattle.std.specs.List.{list_any}
 use Rattle.std.specs.Option.{unwrap_or}
 use Rattle.std.proofs.lemmas.List.{get_or_read, get_or_default, length-map, with_items_is}
 use Rattle.std.proofs.lemmas.Bool.{and_parts, cases_Bool, cond-true, cond-false}
@@ -11,8 +12,8 @@ use Rattle.names.specs.declared.kinds.Value.{Value}
 use Rattle.names.specs.Same.{same_source, same_format}
 use Rattle.scanner.specs.declared.point.Point.{Point}
 use Rattle.scanner.specs.Meaning.{same_point}
-use Rattle.scanner.proofs.Sames.{source_eq, format_eq, point_eq}
-use Rattle.scanners.specs.Search.{FirstOf, NoneBefore, any_of}
+use Rattle.scanner.specs.SamePoint.{SameIsOne}
+use Rattle.scanners.specs.Search.{FirstOf, NoneBefore}
 use Rattle.table_scanner.specs.declared.entry.Pair.{Pair}
 use Rattle.table_scanner.specs.declared.entry.Setting.{Setting}
 use Rattle.table_scanner.specs.Lookup.{found}
@@ -28,7 +29,7 @@ module _ {X : Type 0} (xs : List X) (i : ℕ) (x y : X) (l : i < length xs) (rea
   was : (d : X) → x ≡ slice_index_or xs i d
   was d = get_or_read xs i x l read d
 
-  pub any_put : (test : X → Bool) → test y ≡ test x → any_of test (slice_set xs i y) ≡ any_of test xs
+  pub any_put : (test : X → Bool) → test y ≡ test x → list_any test (slice_set xs i y) ≡ list_any test xs
   any_put test t = any_set test (λ z. z) xs i y (λ d. t ∙ ap test (was d))
 
   pub found_kept : {Y : Type 0} (test : X → Bool) (part : X → Y) → test y ≡ test x → part y ≡ part x → found test part (slice_set xs i y) ≡ found test part xs
@@ -42,14 +43,23 @@ module _ {X : Type 0} (xs : List X) (i : ℕ) (x y : X) (l : i < length xs) (rea
       ]
 
 -- the source and the format of the pair that the search found
-pub pair_at : (xs ys : List Pair) (i : ℕ) (s : Source) (f : PixelFormat) (x : Pair) → ys ≡ xs → FirstOf (is_pair s f) ys (Some i) → x ≡ slice_index_or xs i x → (x.source ≡ s) × (x.format ≡ f)
-pair_at xs ys i s f x e h read =
+pair_at : (one : SameIsOne) (xs ys : List Pair) (i : ℕ) (s : Source) (f : PixelFormat) (x : Pair) → ys ≡ xs → FirstOf (is_pair s f) ys (Some i) → x ≡ slice_index_or xs i x → (x.source ≡ s) × (x.format ≡ f)
+pair_at one xs ys i s f x e h read =
     let meets : is_pair s f x ≡ true = ap (is_pair s f) read ∙ (subst (λ zs. FirstOf (is_pair s f) zs (Some i)) e h).1 x in
     let both = and_parts _ _ meets in
-    (source_eq x.source s both.0, format_eq x.format f both.1)
+    (one.sources x.source s both.0, one.formats x.format f both.1)
 
--- a pair with the same source and format is put at the place i
-module _ (xs ys : List Pair) (i : ℕ) (s : Source) (f : PixelFormat) (y : Pair) (e : ys ≡ xs) (h : FirstOf (is_pair s f) ys (Some i)) (source_is : y.source ≡ s) (format_is : y.format ≡ f) where
+-- the pair that the search found is switched on or off
+module _ (one : SameIsOne) (xs ys : List Pair) (i : ℕ) (s : Source) (f : PixelFormat) (was_there : Pair) (b : Bool) (e : ys ≡ xs) (h : FirstOf (is_pair s f) ys (Some i)) (was_read : was_there ≡ slice_index_or xs i was_there) where
+  abbrev y : Pair
+  y = record { source = was_there.source; format = was_there.format; enabled = b }
+
+  source_is : y.source ≡ s
+  source_is = (pair_at one xs ys i s f was_there e h was_read).0
+
+  format_is : y.format ≡ f
+  format_is = (pair_at one xs ys i s f was_there e h was_read).1
+
   here : FirstOf (is_pair s f) xs (Some i)
   here = subst (λ zs. FirstOf (is_pair s f) zs (Some i)) e h
 
@@ -60,16 +70,16 @@ module _ (xs ys : List Pair) (i : ℕ) (s : Source) (f : PixelFormat) (y : Pair)
   read = get_or_default xs i y x here.0
 
   at : (x.source ≡ s) × (x.format ≡ f)
-  at = pair_at xs ys i s f x e h read
+  at = pair_at one xs ys i s f x e h read
 
   same_pair : (a : Source) (g : PixelFormat) → is_pair a g y ≡ is_pair a g x
   same_pair a g = λ j. same_source ((source_is ∙ sym at.0) j) a && same_format ((format_is ∙ sym at.1) j) g
 
   -- whether it is enabled plays no part in which sources there are
-  pub sources_kept : (a : Source) → any_of (of_source a) (slice_set xs i y) ≡ any_of (of_source a) xs
+  pub sources_kept : (a : Source) → list_any (of_source a) (slice_set xs i y) ≡ list_any (of_source a) xs
   sources_kept a = any_put xs i x y here.0 read (of_source a) (ap (λ z. same_source z a) (source_is ∙ sym at.0))
 
-  pub on_formats : (a : Source) (g : PixelFormat) → any_of (is_pair a g) (slice_set xs i y) ≡ any_of (is_pair a g) xs
+  pub on_formats : (a : Source) (g : PixelFormat) → list_any (is_pair a g) (slice_set xs i y) ≡ list_any (is_pair a g) xs
   on_formats a g = any_put xs i x y here.0 read (is_pair a g) (same_pair a g)
 
   pub on_homes : (a : Source) → found (of_source a) (λ z. z.format) (slice_set xs i y) ≡ found (of_source a) (λ z. z.format) xs
@@ -78,8 +88,8 @@ module _ (xs ys : List Pair) (i : ℕ) (s : Source) (f : PixelFormat) (y : Pair)
   none_before : (a : Source) (g : PixelFormat) → is_pair a g y ≡ true → NoneBefore (is_pair a g) xs i
   none_before a g meets =
       let both = and_parts _ _ meets in
-      let q : s ≡ a = sym source_is ∙ source_eq y.source a both.0 in
-      let r : f ≡ g = sym format_is ∙ format_eq y.format g both.1 in
+      let q : s ≡ a = sym source_is ∙ one.sources y.source a both.0 in
+      let r : f ≡ g = sym format_is ∙ one.formats y.format g both.1 in
       subst (λ z. NoneBefore (is_pair z g) xs i) q (subst (λ z. NoneBefore (is_pair s z) xs i) r here.2)
 
   pub on_switches : (a : Source) (g : PixelFormat) → unwrap_or (found (is_pair a g) (λ z. z.enabled) (slice_set xs i y)) false ≡ cond (same_source s a && same_format f g) y.enabled (unwrap_or (found (is_pair a g) (λ z. z.enabled) xs) false)
@@ -89,7 +99,7 @@ module _ (xs ys : List Pair) (i : ℕ) (s : Source) (f : PixelFormat) (y : Pair)
       ∙ (λ j. cond (same_source (source_is j) a && same_format (format_is j) g) y.enabled (unwrap_or (found (is_pair a g) (λ z. z.enabled) xs) false))
 
 -- the setting at the place i takes a value
-module _ (xs ys : List Setting) (i : ℕ) (p : Point) (v : Value) (x : Setting) (e : ys ≡ xs) (h : FirstOf (at_point p) ys (Some i)) (read : x ≡ slice_index_or xs i x) where
+module _ (one : SameIsOne) (xs ys : List Setting) (i : ℕ) (p : Point) (v : Value) (x : Setting) (e : ys ≡ xs) (h : FirstOf (at_point p) ys (Some i)) (read : x ≡ slice_index_or xs i x) where
   abbrev taken : Setting
   taken = record { point = x.point; initial = x.initial; current = v }
 
@@ -97,9 +107,9 @@ module _ (xs ys : List Setting) (i : ℕ) (p : Point) (v : Value) (x : Setting) 
   stands = subst (λ zs. FirstOf (at_point p) zs (Some i)) e h
 
   at_place : x.point ≡ p
-  at_place = point_eq x.point p (ap (at_point p) read ∙ stands.1 x)
+  at_place = one.points x.point p (ap (at_point p) read ∙ stands.1 x)
 
-  pub taken_points : (q : Point) → any_of (at_point q) (slice_set xs i taken) ≡ any_of (at_point q) xs
+  pub taken_points : (q : Point) → list_any (at_point q) (slice_set xs i taken) ≡ list_any (at_point q) xs
   taken_points q = any_put xs i x taken stands.0 read (at_point q) refl
 
   pub taken_initial : (q : Point) → found (at_point q) (λ z. z.initial) (slice_set xs i taken) ≡ found (at_point q) (λ z. z.initial) xs
@@ -107,7 +117,7 @@ module _ (xs ys : List Setting) (i : ℕ) (p : Point) (v : Value) (x : Setting) 
 
   pub taken_current : (q : Point) → found (at_point q) (λ z. z.current) (slice_set xs i taken) ≡ cond (same_point p q) (Some v) (found (at_point q) (λ z. z.current) xs)
   taken_current q =
-      found_put xs i x taken stands.0 read (at_point q) (λ z. z.current) refl (λ y. subst (λ z. NoneBefore (at_point z) xs i) (sym at_place ∙ point_eq x.point q y) stands.2)
+      found_put xs i x taken stands.0 read (at_point q) (λ z. z.current) refl (λ y. subst (λ z. NoneBefore (at_point z) xs i) (sym at_place ∙ one.points x.point q y) stands.2)
       ∙ (λ j. cond (same_point (at_place j) q) (Some v) (found (at_point q) (λ z. z.current) xs))
 
 -- all pairs are switched off

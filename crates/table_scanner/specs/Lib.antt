@@ -5,3 +5,4 @@ pub mod Device
 pub mod Filling
 pub mod Changes
 pub mod HomeOffered
+pub mod PointsKept

@@ -3,7 +3,7 @@ ghost use Rattle.std.specs.Prelude.{◌≡◌};
 ghost use Rattle.table_scanner.specs.Entries.{of_source, is_pair, at_point, offering, off, restored};
 
 use names::{PixelFormat, Source, Value};
-use scanner::Point;
+use scanner::{Point, points_compare_by_parts};
 use scanners::{Test, Values};
 
 // A pair; the first one of a source has the home format.
@@ -91,6 +91,7 @@ impl Test<Setting> for AtPoint {
     ghost holds = { λ t x. at_point t.point x };
 
     fn meets(&self, entry: &Setting) -> bool {
+        points_compare_by_parts();
         entry.point == self.point
     }
 }
@@ -105,6 +106,7 @@ impl Test<Offer> for Offering {
     ghost holds = { λ t x. offering t.point t.value x };
 
     fn meets(&self, entry: &Offer) -> bool {
+        points_compare_by_parts();
         entry.point == self.point && entry.values.has(self.value)
     }
 }

@@ -14,13 +14,13 @@ use Rattle.text.proofs.Frames.{same_ending}
 use Rattle.text.proofs.Stacks.{Rest, rest_none, rest_object, rest_array, Accepts}
 
 -- where t is left of a text of n bytes, the tape goes on from the stack k as z
-record Yields (n : ℕ) (z : Tape) (k : List Frame) (t : List ℕ) : Type 0 where
-  runs : (i : ℕ) → n ≡ i + length t → run t i k ≡ z
+pub record Yields (n : ℕ) (z : Tape) (k : List Frame) (t : List ℕ) : Type 0 where
+  pub runs : (i : ℕ) → n ≡ i + length t → run t i k ≡ z
 
 yields_go : (k l : List Frame) (b : ℕ) (bs : List ℕ) {n : ℕ} {z : Tape} → step k b ≡ go l → Yields n z l bs → Yields n z k (b ∷ bs)
 yields_go k l b bs e a = record { runs = λ i q. run_go b bs i k l e ∙ a.runs (suc i) (omega arith) }
 
-yields_says : (k l : List Frame) (y : Kind) (b : ℕ) (bs : List ℕ) {n : ℕ} {z : Tape} → step k b ≡ says y l → Yields n z l bs → Yields n (event y (at n (b ∷ bs)) z) k (b ∷ bs)
+pub yields_says : (k l : List Frame) (y : Kind) (b : ℕ) (bs : List ℕ) {n : ℕ} {z : Tape} → step k b ≡ says y l → Yields n z l bs → Yields n (event y (at n (b ∷ bs)) z) k (b ∷ bs)
 yields_says k l y b bs {n} {z} e a = record {
   runs = λ i q. let p : i ≡ at n (b ∷ bs) = omega arith in run_says b bs i y k l e ∙ ap (event y i) (a.runs (suc i) (omega arith)) ∙ ap (λ j. event y j z) p;
 }
@@ -80,7 +80,7 @@ ws_ends : {t u : List ℕ} → Ws t u → number_ends u ≡ true → number_ends
 ws_ends ws_none e = e
 ws_ends (ws_more {b} h w) e = grind (arith, nat_tests)
 
-end_ends : {t : List ℕ} → Ws t [] → number_ends t ≡ true
+pub end_ends : {t : List ℕ} → Ws t [] → number_ends t ≡ true
 end_ends w = ws_ends w refl
 
 module _ (k : List Frame) where
@@ -193,7 +193,7 @@ module _ (k : List Frame) where
   int_value_on d int_zero r x e a = yields_says _ _ number 48 _ (value_zero d) (frac_on r x e a)
   int_value_on d (int_more {b} h ds) r x e a = yields_says _ _ number b _ (value_more d b h) (digits_on whole ds (frac_undigit r x e) (frac_on r x e a))
 
-  number_on : (d : ℕ) {t u : List ℕ} {n : ℕ} {z : Tape} → Number t u → number_ends u ≡ true → Yields n z k u → Yields n (event number (at n t) z) (value d ∷ k) t
+  pub number_on : (d : ℕ) {t u : List ℕ} {n : ℕ} {z : Tape} → Number t u → number_ends u ≡ true → Yields n z k u → Yields n (event number (at n t) z) (value d ∷ k) t
   number_on d (a_number minus_none i r x) e a = int_value_on d i r x e a
   number_on d (a_number minus i r x) e a = yields_says _ _ number 45 _ (value_minus d) (int_first_on i r x e a)
 
@@ -286,7 +286,7 @@ module _ (k : List Frame) where
   quote_step = refl
 
   -- a string after its first quote
-  string_on : {t u : List ℕ} {n : ℕ} {z : Tape} → Chars t (34 ∷ u) → Yields n z k u → Yields n z (chars ∷ k) t
+  pub string_on : {t u : List ℕ} {n : ℕ} {z : Tape} → Chars t (34 ∷ u) → Yields n z k u → Yields n z (chars ∷ k) t
   string_on c a = chars_on c (yields_go _ _ 34 _ quote_step a)
 
 -- the tape does not begin with a fault
@@ -301,7 +301,7 @@ value_not_fault (object i ms j) z e q = cc
 value_not_fault (array i vs j) z e q = cc
 
 module _ (d : ℕ) (k : List Frame) where
-  value_quote : step (value d ∷ k) 34 ≡ says string (chars ∷ k)
+  pub value_quote : step (value d ∷ k) 34 ≡ says string (chars ∷ k)
   unfolding step
   value_quote = refl
 
@@ -383,11 +383,11 @@ module _ (d : ℕ) (k : List Frame) where
 mark_ends : (c : ℕ) {t u : List ℕ} → not (digit c || eqb c 46 || exponent_mark c) ≡ true → Mark c t u → number_ends t ≡ true
 mark_ends c e (mark w x) = ws_ends w e
 
-members_ends : {d : ℕ} {t u : List ℕ} → Members d t u → number_ends t ≡ true
+pub members_ends : {d : ℕ} {t u : List ℕ} → Members d t u → number_ends t ≡ true
 members_ends (members_end m) = mark_ends 125 refl m
 members_ends (members_more m x y) = mark_ends 44 refl m
 
-entries_ends : {d : ℕ} {t u : List ℕ} → Entries d t u → number_ends t ≡ true
+pub entries_ends : {d : ℕ} {t u : List ℕ} → Entries d t u → number_ends t ≡ true
 entries_ends (entries_end m) = mark_ends 93 refl m
 entries_ends (entries_more m x y) = mark_ends 44 refl m
 

@@ -12,3 +12,4 @@ pub mod Back
 pub mod Values
 pub mod Derived
 pub mod Literally
+pub mod TokenParts

@@ -293,10 +293,10 @@ pub data NameCut (r s : Reader) (e : TextFault) : Type 0 where
   in_name : ((n : Kind) (f g : Stack) → Quotes n f g r → Halted f r s e) → NameCut r s e
   no_colon : (q : Reader) (x : List ℕ) → StringRead r q x → Blank q s → (Inside s → here s ≢ 58) → NameCut r s e
 
--- a member's name was not read with its colon; the fault lies before the colon
+-- a member's name was not read with its colon; the fault lies before the colon, at or after the place where the name may begin
 pub record NameFails (f : ℕ → Stack) (r s : Reader) (e : TextFault) : Type 0 where
   pub from : Reader
-  pub blank : (d : ℕ) → Onward (f d) (λ k. member d ∷ k) r from
+  pub to : (d : ℕ) → Onward (f d) (λ k. member d ∷ k) r from
   pub solid : Inside from → white (here from) ≡ false
   pub cut : NameCut from s e
   pub halted : (d : ℕ) → Halted (f d) r s e

@@ -14,3 +14,4 @@ pub mod Canonical
 pub mod ReadsBack
 pub mod Value
 pub mod Derived
+pub mod TokenParts

@@ -6,7 +6,7 @@ ghost use Rattle.text.specs.Numbers.{magnitude, up_to, integer_of};
 const LARGEST_PREFIX: u32 = 214748364;
 
 // The number that the digits write without a leading zero, if it is at most `most`.
-// The cases go by ranges of digits with guards on the place, the leading zero and the size so far: a rule of the project.
+// One match decides over each digit, by its range with guards on its place and on the size so far, so that all ways to fail stand together.
 fn size_of(digits: &[u8], most: u32) -> Option<u32>
     requires { (2147483647 ≤ most) × (most ≤ 2147483648) }
     ensures { result ≡ up_to most (magnitude digits.now) }

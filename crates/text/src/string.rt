@@ -1,5 +1,6 @@
 // What a string stands for: its escapes resolved.
-ghost use Rattle.std.specs.Prelude.{◌≡◌, Bool, true, false, map};
+ghost use Rattle.std.specs.Prelude.{◌≡◌, ◌==◌, Bool, true, false, not, map};
+ghost use Rattle.std.specs.List.{list_any};
 ghost use Rattle.text.specs.declared.string.Mode.TheVariants.{Plain};
 ghost use Rattle.text.specs.Strings.{hex_value, plain_escape, unit, adds, goes, units, stands, lowered, alike, matching, Compares, Tells};
 
@@ -99,7 +100,8 @@ fn compare<F: Fn(u32, u8) -> bool>(raw: &[u8], name: &[u8], same: F) -> bool
 
 // Whether no backslash is among the bytes; they then stand for themselves.
 pub fn unescaped(raw: &[u8]) -> bool
-    ensures { result ≡ true → stands raw.now ≡ raw.now }
+    ensures told { result ≡ not (list_any (λ b. b == 92) raw.now) }
+    ensures stands { result ≡ true → stands raw.now ≡ raw.now }
 {
     !raw.contains(&b'\\')
 }

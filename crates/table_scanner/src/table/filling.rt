@@ -11,7 +11,7 @@ use crate::entry::{Offer, Pair, Setting};
 use crate::fill::{Fill, Given};
 use crate::table::TableScanner;
 use names::{PixelFormat, Source, Value};
-use scanner::Scanner;
+use scanner::{Scanner, same_points_are_one};
 use scanners::{FillFault, Values};
 use std::alloc::{AllocError, Global};
 
@@ -90,6 +90,7 @@ impl TableScanner {
         requires { fault_of (device self.old) (Some (change_of change)) ≡ None }
         ensures { device self.new ≡ carried_out (device self.old) (change_of change) }
     {
+        same_points_are_one();
         match change {
             Change::Source(source, format) | Change::Format(source, format) => {
                 self.pairs.push_reserved(Pair {

@@ -18,6 +18,6 @@ returns-then-unescaped-clause-value c =
     let x = stands c.args.raw.now in
     let ns = names_of c.args.letters.now c.args.starts.now in
     let e = names_count c.args.letters.now c.args.starts.now in
-    let same = c.unescaped.ensures c.if-unescaped.true in
+    let same = c.unescaped.ensures.stands c.if-unescaped.true in
     place_found x ns c.saturating_sub-count.result c.find.result (omega arith)
     (first_from_Range _ _ _ c.find.result (λ i. matching false x (get_or ns i []) ≡ true) (λ i. matching false x (get_or ns i []) ≡ false) c.find.ensures.ran (λ i q k. rw same (search rules)) (λ i q k. rw same (search rules)))

@@ -8,4 +8,4 @@ returns c =
     record { tells = rw m (matches_equal _ _); letters = m }
 
 pub returns-then-unescaped : goal.returns-then-unescaped
-returns-then-unescaped c = let q = c.unescaped.ensures c.if-unescaped.true in record { tells = rw q c.same.ensures.tells; letters = rw q c.same.ensures.letters }
+returns-then-unescaped c = let q = c.unescaped.ensures.stands c.if-unescaped.true in record { tells = rw q c.same.ensures.tells; letters = rw q c.same.ensures.letters }

@@ -34,7 +34,7 @@ then_name f r s u x i p q = record {
 -- the same for a name at fault
 then_name_fails : (f : Bool) {r s u : Reader} {e : TextFault} → ((d : ℕ) → Onward (λ k. members f d ∷ k) (λ k. member d ∷ k) r s) → NameFails (λ d k. member d ∷ k) s u e → MemberFails f r u e
 then_name_fails f p q = record {
-  early = inr (record { from = q.from; blank = λ d. then (p d) (q.blank d); solid = q.solid; cut = q.cut; halted = λ d. then_halted (p d) (q.halted d) });
+  early = inr (record { from = q.from; to = λ d. then (p d) (q.to d); solid = q.solid; cut = q.cut; halted = λ d. then_halted (p d) (q.halted d) });
   halted = λ d. then_halted (p d) (q.halted d);
 }
 

@@ -34,7 +34,7 @@ returns-in_err-value c =
     broken (ReadsName _ _ _) _ c.from_residual.ensures.1
     (record {
       from = c.blanks.new.self;
-      blank = λ d. c.blanks.ensures.runs _ (skip_member d);
+      to = λ d. c.blanks.ensures.runs _ (skip_member d);
       solid = c.blanks.ensures.stops;
       cut = NameCut.in_name c.in_err-value.ensures;
       halted = λ d. then_halted (c.blanks.ensures.runs _ (skip_member d)) (c.in_err-value.ensures name _ _ (member_quotes d c.blanks.ensures.stops));
@@ -46,7 +46,7 @@ returns-in_err-expect c =
     broken (ReadsName _ _ _) _ c.from_residual-in_err-expect.ensures.1
     (record {
       from = c.blanks.new.self;
-      blank = λ d. c.blanks.ensures.runs _ (skip_member d);
+      to = λ d. c.blanks.ensures.runs _ (skip_member d);
       solid = c.blanks.ensures.stops;
       cut = let w = c.in_err-expect.ensures.left.0 in NameCut.no_colon _ _ c.in_ok-value.ensures (λ f h. then_left (c.blanks-2.ensures.runs f h) w) (other_byte 58 w (λ b x m. search rules));
       halted = λ d. passed_halted (λ _. refl) (to_colon _ _ _ _ _ d (c.blanks.ensures.runs _ (skip_member d)) c.in_ok-value.ensures (c.blanks-2.ensures.runs _ (skip_colon d)))
