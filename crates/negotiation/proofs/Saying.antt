@@ -7,6 +7,8 @@ use Rattle.table.specs.Places.{outside}
 use Rattle.table.specs.Task.{ActionObject}
 use Rattle.scanner.specs.declared.plan.Item.{Item}
 use Rattle.scanner.specs.Meaning.{Catalogue}
+use Rattle.negotiation.specs.declared.settle.ByStream.{ByStream}
+use Rattle.negotiation.specs.declared.settle.ByStream.TheVariants.{At}
 use Rattle.negotiation.specs.declared.trouble.Trouble.{Trouble}
 use Rattle.negotiation.specs.declared.trouble.Rejection.{Rejection}
 use Rattle.negotiation.specs.declared.trouble.Refusal.{Refusal}
@@ -16,7 +18,7 @@ use Rattle.negotiation.specs.Plans.{stream_items}
 use Rattle.negotiation.specs.Exceptions.{forced_streams}
 use Rattle.negotiation.specs.Endings.{by_default, met, unmet, StoppedBy, RanOutBy}
 use Rattle.negotiation.specs.Verdicts.{Outcome, unchanged, planned, rejected, other_word, fails_itself, ActionComes, EachIdle, EachMet, PlannedBy, RejectedBy, Comes, OneVerdict}
-use Rattle.negotiation.specs.Met.{Stream, default_stream, given, plan_of, IsConfigure, IsOther, FailsByItself, own_trouble, troubles_in, Meets, CanBeMet, DecidedBy, NoConfigure, Sets, RejectedAs, Says}
+use Rattle.negotiation.specs.Met.{Stream, default_stream, given, plan_of, told_of, IsConfigure, IsOther, FailsByItself, own_trouble, troubles_in, Meets, CanBeMet, DecidedBy, NoConfigure, Sets, RejectedAs, Says}
 use Rattle.negotiation.proofs.Meeting.{fails_is, fails_only, none_forced, idle_is, planned_is, rejected_is}
 use Rattle.negotiation.proofs.Verdicting.{one_verdict}
 
@@ -65,18 +67,18 @@ quiet_is a n = not_failing a n (fails_itself a) refl
 module _ (k : Catalogue) where
   -- One action: what is met comes to no change or to a plan, and what is decided to its rejection.
   abbrev Fine : ActionObject → Type 0
-  Fine a = ActionComes k outside a unchanged ⊎ ((xs : List Item) × ActionComes k outside a (planned xs))
+  Fine a = ActionComes k outside a unchanged ⊎ ((b : ByStream) × (xs : List Item) × ActionComes k outside a (planned b xs))
 
   idle_comes : (a : ActionObject) → CanBeMet k a → IsOther a → ActionComes k outside a unchanged
   idle_comes a m o = inr (inl (record { quiet = quiet_is a m.quiet; other = o; is = refl }))
 
-  meets_comes : (a : ActionObject) (s : Stream) → fails_itself a ≡ false → IsConfigure a → Meets k a s → ActionComes k outside a (planned (plan_of k s))
+  meets_comes : (a : ActionObject) (s : Stream) → fails_itself a ≡ false → IsConfigure a → Meets k a s → ActionComes k outside a (planned (told_of s) (plan_of k s))
   meets_comes a default_stream q c m = inr (inr (record { quiet = q; other = c; ends = by_default; streams = none_forced a m; is = refl }))
-  meets_comes a (given s) q c m = inr (inr (record { quiet = q; other = c; ends = met m.0; streams = m.1; is = ap (λ z. planned (stream_items k z)) (sym m.2) }))
+  meets_comes a (given s) q c m = inr (inr (record { quiet = q; other = c; ends = met m.0; streams = m.1; is = ap (λ z. planned (At z.head) (stream_items k z)) (sym m.2) }))
 
   by_word : (a : ActionObject) → CanBeMet k a → (b : Bool) → other_word a ≡ b → Fine a
   by_word a m true e = inl (idle_comes a m e)
-  by_word a m false e = let w = m.met e in inr (plan_of k w.0, meets_comes a w.0 (quiet_is a m.quiet) e w.1)
+  by_word a m false e = let w = m.met e in inr (told_of w.0, plan_of k w.0, meets_comes a w.0 (quiet_is a m.quiet) e w.1)
 
   met_comes : (a : ActionObject) → CanBeMet k a → Fine a
   met_comes a m = by_word a m (other_word a) refl
@@ -96,7 +98,7 @@ module _ (k : Catalogue) where
   -- All actions of a list, from what they come to and back.
   one_met : (a : ActionObject) → Fine a → CanBeMet k a
   one_met a (inl h) = (idle_is k a h).1
-  one_met a (inr h) = (planned_is k a h.0 h.1).1
+  one_met a (inr h) = (planned_is k a h.0 h.1 h.2).1
 
   each_met : (acts : List ActionObject) → EachMet k outside acts → AllByRecursion (CanBeMet k) acts
   each_met [] h = tt
@@ -115,9 +117,9 @@ module _ (k : Catalogue) where
   idle_each (a ∷ acts) n h = (idle_comes a h.0 n.0, idle_each acts n.1 h.1)
 
   -- what the actions come to, it says
-  sets : (acts : List ActionObject) (xs : List Item) → PlannedBy k outside acts xs → Sets k acts xs
-  sets acts xs h =
-      let w = planned_is k h.last xs h.comes in
+  sets : (acts : List ActionObject) (b : ByStream) (xs : List Item) → PlannedBy k outside acts b xs → Sets k acts b xs
+  sets acts b xs h =
+      let w = planned_is k h.last b xs h.comes in
       let r = each_idle h.after h.idle in
       record {
         action = h.last;
@@ -147,12 +149,12 @@ module _ (k : Catalogue) where
 
   said : (acts : List ActionObject) (o : Outcome) → Comes k outside acts o → Says k acts o
   said acts unchanged h = each_idle acts h
-  said acts (planned xs) h = sets acts xs h
+  said acts (planned b xs) h = sets acts b xs h
   said acts (rejected r) h = names acts r h
 
   -- what it says, they come to
-  planned_by : (acts : List ActionObject) (xs : List Item) → Sets k acts xs → PlannedBy k outside acts xs
-  planned_by acts xs s =
+  planned_by : (acts : List ActionObject) (b : ByStream) (xs : List Item) → Sets k acts b xs → PlannedBy k outside acts b xs
+  planned_by acts b xs s =
       let l = s.last in
       let h = all_parts (CanBeMet k) l.before (s.action ∷ l.after) (subst (AllByRecursion (CanBeMet k)) l.split s.all) in
       record {
@@ -161,7 +163,7 @@ module _ (k : Catalogue) where
         after = l.after;
         split = l.split;
         met = met_each l.before h.0;
-        comes = subst (λ z. ActionComes k outside s.action (planned z)) (sym s.met.2) (meets_comes s.action s.met.0 (quiet_is s.action h.1.0.quiet) l.configure s.met.1);
+        comes = subst (ActionComes k outside s.action) (λ j. planned (sym s.met.3 j) (sym s.met.2 j)) (meets_comes s.action s.met.0 (quiet_is s.action h.1.0.quiet) l.configure s.met.1);
         idle = idle_each l.after l.none_after h.1.1;
       }
 
@@ -178,7 +180,7 @@ module _ (k : Catalogue) where
 
   come : (acts : List ActionObject) (o : Outcome) → Says k acts o → Comes k outside acts o
   come acts unchanged h = idle_each acts h.0 h.1
-  come acts (planned xs) h = planned_by acts xs h
+  come acts (planned b xs) h = planned_by acts b xs h
   come acts (rejected r) h = rejected_by acts r h
 
   verdict : (acts : List ActionObject) (o : Outcome) → Comes k outside acts o → OneVerdict k outside acts o

@@ -57,8 +57,8 @@ module _ (k : Catalogue) where
 
     by_outcome : (acts : List ActionObject) → ComesTo text room (Ok acts) → (o : Outcome) → OneVerdict k outside acts o → Tells o xs ys r → Chooses h t xs ys
     by_outcome acts v unchanged d z = inl (z.1, λ s c. chosen_kept k h t quiet acts (brings acts (inl (z.0, v))) s c ((says.outcome acts unchanged).0 d).0)
-    by_outcome acts v (planned zs) d z =
-        let m = (says.outcome acts (planned zs)).0 d in
+    by_outcome acts v (planned b zs) d z =
+        let m = (says.outcome acts (planned b zs)).0 d in
         inr (m.met.0, z.1 ∙ m.met.2, λ s c. chosen_new k h t quiet acts (brings acts (inl (z.0, v))) s c m.action m.met.0 m.last m.met.1)
     by_outcome acts v (rejected f) d z = refused (Rejected f) z
 

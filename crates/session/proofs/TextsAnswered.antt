@@ -59,7 +59,7 @@ module _ (come : ComeToOne) (k : Catalogue) (says : SaysWhatIs k) (text : List �
 
     by_outcome : (xs ys : List Item) (r : Told) (o : Outcome) → OneVerdict k outside acts o → Tells o xs ys r → At r
     by_outcome xs ys r unchanged d z = subst At (sym z.0) (accepted (judged_met k acts ((says.outcome acts unchanged).0 d).1))
-    by_outcome xs ys r (planned zs) d z = subst At (sym z.0) (accepted (judged_met k acts (((says.outcome acts (planned zs)).0 d).all)))
+    by_outcome xs ys r (planned b zs) d z = subst At (sym z.0) (accepted (judged_met k acts (((says.outcome acts (planned b zs)).0 d).all)))
     by_outcome xs ys r (rejected q) d z = subst At (sym z) (let n = (says.outcome acts (rejected q)).0 d in turned_down q (judged_unmet k acts q n) n)
 
   by_result : (xs ys : List Item) (r : Told) (x : Result (List ActionObject) TableFault) → ComesTo text room x → Draws k x xs ys r → At r

@@ -1,5 +1,5 @@
 -- Worked tasks on the flatbed, one row each, from the bytes of the text to the outcome.
-use Rattle.std.specs.Prelude.{◌≡◌, ℕ, Bool, true, false, List, [], ◌∷◌, pos, Some, Ok, Err, Result, codes}
+use Rattle.std.specs.Prelude.{◌≡◌, ℕ, Bool, true, false, List, [], ◌∷◌, pos, Some, None, Ok, Err, Result, codes}
 use Rattle.text.specs.declared.fault.TextFault.TheVariants.{Forbidden}
 use Rattle.names.specs.declared.kinds.Source.{Source}
 use Rattle.names.specs.declared.kinds.PixelFormat.{PixelFormat}
@@ -20,6 +20,8 @@ use Rattle.scanner.specs.declared.point.Point.{Point}
 use Rattle.scanner.specs.Meaning.{Catalogue, State, powered}
 use Rattle.scanner.specs.Plan.{plan_put}
 use Rattle.scanners.specs.Flatbed.{flatbed_catalogue}
+use Rattle.negotiation.specs.declared.settle.ByStream.{ByStream}
+use Rattle.negotiation.specs.declared.settle.ByStream.TheVariants.{Default, At}
 use Rattle.negotiation.specs.Endings.{failing, ran_out}
 use Rattle.negotiation.specs.Verdicts.{Outcome, unchanged, planned, rejected, OneVerdict}
 
@@ -54,6 +56,10 @@ pub record Row : Type 0 where
   pub gray_enabled : Bool
   pub gray_resolution : ℕ
 
+-- met by this stream of the action, whose brace stands at this offset
+abbrev stream_at : ℕ → ℕ → ByStream
+stream_at i n = At (record { index = i; offset = n; exception = None; unknown = false })
+
 -- the table
 abbrev pub worked : List Row
 worked =
@@ -64,17 +70,17 @@ worked =
     -- JSON that is no object is refused
     ∷ record { text = codes "[]"; result = Err (Form OutermostNoObject 0); gray_enabled = false; gray_resolution = 300 }
     -- one action enables gray8
-    ∷ record { text = codes "{\"actions\":[{}]}"; result = Ok (planned gray); gray_enabled = true; gray_resolution = 300 }
+    ∷ record { text = codes "{\"actions\":[{}]}"; result = Ok (planned Default gray); gray_enabled = true; gray_resolution = 300 }
     -- one stream that wants rgb48 gives gray8
-    ∷ record { text = codes "{\"actions\":[{\"streams\":[{\"sources\":[{\"pixelFormats\":[{\"pixelFormat\":\"rgb48\"}]}]}]}]}"; result = Ok (planned gray); gray_enabled = true; gray_resolution = 300 }
+    ∷ record { text = codes "{\"actions\":[{\"streams\":[{\"sources\":[{\"pixelFormats\":[{\"pixelFormat\":\"rgb48\"}]}]}]}]}"; result = Ok (planned (stream_at 0 24) gray); gray_enabled = true; gray_resolution = 300 }
     -- and with nextStream on it no stream is left
     ∷ record { text = codes "{\"actions\":[{\"streams\":[{\"exception\":\"nextStream\",\"sources\":[{\"pixelFormats\":[{\"pixelFormat\":\"rgb48\"}]}]}]}]}"; result = Ok (rejected (ran_out (record { path = format_path 0; offset = 78; exception = NextStream }))); gray_enabled = false; gray_resolution = 300 }
     -- resolution 70, 80, 100, 150 gives 100
-    ∷ record { text = codes "{\"actions\":[{\"streams\":[{\"sources\":[{\"pixelFormats\":[{\"attributes\":[{\"attribute\":\"resolution\",\"values\":[{\"value\":70},{\"value\":80},{\"value\":100},{\"value\":150}]}]}]}]}]}]}"; result = Ok (planned (gray_at 100)); gray_enabled = true; gray_resolution = 100 }
+    ∷ record { text = codes "{\"actions\":[{\"streams\":[{\"sources\":[{\"pixelFormats\":[{\"attributes\":[{\"attribute\":\"resolution\",\"values\":[{\"value\":70},{\"value\":80},{\"value\":100},{\"value\":150}]}]}]}]}]}]}"; result = Ok (planned (stream_at 0 24) (gray_at 100)); gray_enabled = true; gray_resolution = 100 }
     -- resolution 70 with its own ignore, then 100, stays 300
-    ∷ record { text = codes "{\"actions\":[{\"streams\":[{\"sources\":[{\"pixelFormats\":[{\"attributes\":[{\"attribute\":\"resolution\",\"values\":[{\"value\":70,\"exception\":\"ignore\"},{\"value\":100}]}]}]}]}]}]}"; result = Ok (planned gray); gray_enabled = true; gray_resolution = 300 }
+    ∷ record { text = codes "{\"actions\":[{\"streams\":[{\"sources\":[{\"pixelFormats\":[{\"attributes\":[{\"attribute\":\"resolution\",\"values\":[{\"value\":70,\"exception\":\"ignore\"},{\"value\":100}]}]}]}]}]}]}"; result = Ok (planned (stream_at 0 24) gray); gray_enabled = true; gray_resolution = 300 }
     -- a stream that wants resolution 600 and then the feeder, before one that wants the flatbed, gives 300
-    ∷ record { text = codes "{\"actions\":[{\"streams\":[{\"sources\":[{\"pixelFormats\":[{\"attributes\":[{\"attribute\":\"resolution\",\"values\":[{\"value\":600}]}]}]},{\"source\":\"feeder\"}]},{\"sources\":[{\"source\":\"flatBed\"}]}]}]}"; result = Ok (planned gray); gray_enabled = true; gray_resolution = 300 }
+    ∷ record { text = codes "{\"actions\":[{\"streams\":[{\"sources\":[{\"pixelFormats\":[{\"attributes\":[{\"attribute\":\"resolution\",\"values\":[{\"value\":600}]}]}]},{\"source\":\"feeder\"}]},{\"sources\":[{\"source\":\"flatBed\"}]}]}]}"; result = Ok (planned (stream_at 1 146) gray); gray_enabled = true; gray_resolution = 300 }
     -- a stream that wants the feeder, before one of another vendor, which is skipped: no stream is left
     ∷ record { text = codes "{\"actions\":[{\"streams\":[{\"sources\":[{\"source\":\"feeder\"}]},{\"vendor\":\"x\"}]}]}"; result = Ok (rejected (ran_out (record { path = source_path 0; offset = 36; exception = NextStream }))); gray_enabled = false; gray_resolution = 300 }
     -- the same with spaces and escapes, which count in the offset
@@ -92,7 +98,7 @@ worked =
 abbrev pub leaves : Catalogue → Result Outcome TableFault → State
 leaves k (Err e) = powered k
 leaves k (Ok unchanged) = powered k
-leaves k (Ok (planned xs)) = plan_put k xs
+leaves k (Ok (planned b xs)) = plan_put k xs
 leaves k (Ok (rejected r)) = powered k
 
 -- a text is refused by this fault, or is a task that comes to this outcome and to no other
