@@ -11,7 +11,7 @@ use Rattle.session.specs.declared.runs.Turn.{Turn}
 use Rattle.negotiation.specs.Met.{Stream, default_stream, IsOther, Meets, LastConfigure, NoConfigure}
 use Rattle.session.specs.History.{Asked, asked, submit, is_restart, SinceRestart}
 use Rattle.session.specs.Submissions.{Submission, submitted_by, submitted_in, submissions, Adds, AllAccepted}
-use Rattle.session.specs.Promise.{Chosen}
+use Rattle.session.specs.Promise.{LastMet, Chosen}
 use Rattle.session.proofs.Tasks.{all_join}
 
 -- what was submitted in a turn, by what was asked and answered
