@@ -1,5 +1,5 @@
 -- A task without a configure action comes to no plan.
-use Rattle.std.proofs.Common.{◌≡◌, ℕ, true, false, List, [], ◌∷◌, ◌++◌, Ok, Err, sym, ap, ◌∙◌, subst, inl, inr}
+use Rattle.std.proofs.Common.{◌≡◌, ℕ, List, [], ◌∷◌, ◌++◌, Ok, Err, sym, ap, ◌∙◌, subst, inl, inr}
 use Rattle.std.proofs.lemmas.List.{append-nil}
 use Rattle.std.specs.List.{AllByRecursion}
 use Rattle.table.specs.declared.place.Place.{Place}
@@ -40,8 +40,10 @@ added_idle s acts P h n task refused = by h.2
   where
     none : h.1 ≡ []
     none = h.3
+
     same : acts ≡ h.0
     same = h.4 ∙ (ap (λ z. h.0 ++ z) none ∙ append-nil h.0)
+
     by : Adds s h.0 → P
     by (inl a) = task h.0 a.1 (subst NoConfigure same n)
     by (inr a) = refused a.0 a.1

@@ -1,4 +1,4 @@
-use Rattle.std.proofs.Common.{◌≡◌, length, Ok, Err, sym, ap, ◌∙◌, subst}
+use Rattle.std.proofs.Common.{length, sym, ap, ◌∙◌, subst}
 use Rattle.scanner.specs.Plan.{plan_put}
 use Rattle.session.specs.Held.{items_of}
 use Rattle.session.specs.Output.{WrittenInto}
