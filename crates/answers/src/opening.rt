@@ -9,7 +9,7 @@ ghost use Rattle.session.specs.Promise.{HoldsChosen, KeepsChosen};
 
 use crate::writing::put_answer;
 use scanner::Scanner;
-use session::{Answer, Call, NoMemory, OutputFault, Session, SubmitFault, Turn, run};
+use session::{Answer, Call, NoMemory, NoRun, OutputFault, Session, SubmitFault, Turn, run};
 use std::alloc::Global;
 use table::Record;
 
@@ -40,7 +40,10 @@ pub fn open_and_answer<S: Scanner>(
         return Err(NoMemory { scanner });
     };
     calls.push_reserved(Call::Submit(text, table));
-    let (session, turns) = run(heap, scanner, calls)?;
+    let (session, turns) = match run(heap, scanner, calls) {
+        Ok(ran) => ran,
+        Err(NoRun { scanner, calls: _ }) => return Err(NoMemory { scanner }),
+    };
     let drew = first_drew(&turns);
     let told = put_answer(&session, drew, buffer);
     Ok((session, told))

@@ -9,10 +9,10 @@ use Rattle.answers.proofs.opening.open_and_answer.Goals as goal
 pub returns-clause-answered : goal.returns-clause-answered
 returns-clause-answered g c =
     let k = g.S.Scanner.catalogue c.args.scanner in
-    let e = c.in_ok-session.ensures in
-    let turns = c.in_ok-session.turns.items in
-    let plan = items_of c.in_ok-session.session.kept in
-    let st = g.S.Scanner.state c.in_ok-session.session.scanner in
+    let e = c.in-Ok-run.ensures in
+    let turns = c.in-Ok-run.ran.1.items in
+    let plan = items_of c.in-Ok-run.ran.0.kept in
+    let st = g.S.Scanner.state c.in-Ok-run.ran.0.scanner in
     let one = first_turn k c.args.text.now (length c.args.table.now) _ _ _ turns c.in-Ok.ensures.items c.push_reserved.ensures.items refl e.answered in
     let told = c.first_drew-drew.ensures ∙ ap first_drew c.deref.ensures.value in (
       one.turn,
