@@ -1,20 +1,26 @@
 -- Two runs of the same calls: which stream is chosen depends on what was asked and answered alone, so they tell the same and leave
 -- the same.
-use Rattle.std.proofs.Common.{◌≡◌, Bool, true, false, List, [], ◌∷◌, ◌++◌, map, sym, refl, ap, ◌∙◌, subst, inl, inr}
+use Rattle.std.proofs.Common.{◌≡◌, length, false, List, [], ◌∷◌, ◌++◌, map, sym, refl, ap, ◌∙◌, subst, inl, inr}
 use Rattle.std.specs.List.{AllByRecursion}
 use Rattle.std.proofs.lemmas.List.{map-append}
 use Rattle.scanner.specs.declared.plan.Item.{Item}
+use Rattle.scanner.specs.declared.plan.Item.TheVariants as items
+use Rattle.scanner.specs.Plan.{InPlan}
+use Rattle.negotiation.specs.Met.{plan_of}
+use Rattle.session.specs.Output.{WrittenInto}
+use Rattle.session.specs.Reply.{reply_text}
+use Rattle.std.specs.Prelude.{Decides}
 use Rattle.scanner.specs.Meaning.{Catalogue, State, Agree}
 use Rattle.table.specs.Laws.{ComeToOne}
 use Rattle.negotiation.specs.Met.{Stream, SaysWhatIs}
 use Rattle.session.specs.declared.runs.Answer.{Answer}
 use Rattle.session.specs.declared.runs.Call.{Call}
 use Rattle.session.specs.declared.runs.Turn.{Turn}
-use Rattle.session.specs.Answered.{Answered, TurnOf, EachAnswered, buffer_of, told}
-use Rattle.session.specs.History.{Asked, asked, is_restart, SinceRestart, EndsInRestart}
-use Rattle.session.specs.Submissions.{Submission, submitted_by, submissions}
-use Rattle.session.specs.Promise.{ChosenBy, Chosen, HoldsChosen, KeepsChosen}
-use Rattle.session.proofs.OneTurn.{one_turn}
+use Rattle.session.specs.Answered.{Answered, TurnOf, EachAnswered, ValueAt, buffer_of, posed, told}
+use Rattle.session.specs.History.{Asked, asked, asked_by, is_restart, SinceRestart, EndsInRestart}
+use Rattle.session.specs.Submissions.{submitted_by, submissions}
+use Rattle.session.specs.Promise.{ChosenBy, Chosen, HoldsChosen, KeepsChosen, TextAnswered}
+use Rattle.session.proofs.OneTurn.{one}
 use Rattle.session.proofs.Single.{heads, tails, one_kept, one_state}
 
 -- a list that is mapped to two parts is made of two
@@ -112,6 +118,42 @@ module _ (k : Catalogue) where
   answered_alike h g (Call.Setting p) t e a = (a.0, chosen_alike h g a.0 e a.1, a.2, a.3, a.4)
   answered_alike h g (Call.Enabled s f) t e a = (a.0, chosen_alike h g a.0 e a.1, a.2, a.3, a.4)
 
+  -- a call that asks the same of the same buffer is answered so too
+  answered_as : (h : List Turn) (c d : Call) (t : Turn) → asked_by c ≡ asked_by d → buffer_of c ≡ buffer_of d → Answered k h c t → Answered k h d t
+  answered_as h (Call.Submit x m) (Call.Submit y n) t e f a =
+      let p : x.now ≡ y.now = cc in
+      let q : length m.now ≡ length n.now = cc in
+      (a.0, a.1, subst (λ i. TextAnswered k (record { text = y.now; room = i; answer = a.0 })) q (subst (λ z. TextAnswered k (record { text = z; room = length m.now; answer = a.0 })) p a.2))
+  answered_as h (Call.Submit x m) Call.Restart t e f a = absurd (cc)
+  answered_as h (Call.Submit x m) (Call.Reply b) t e f a = absurd (cc)
+  answered_as h (Call.Submit x m) (Call.Setting p) t e f a = absurd (cc)
+  answered_as h (Call.Submit x m) (Call.Enabled s g) t e f a = absurd (cc)
+  answered_as h Call.Restart (Call.Submit y n) t e f a = absurd (cc)
+  answered_as h Call.Restart Call.Restart t e f a = a
+  answered_as h Call.Restart (Call.Reply b) t e f a = absurd (cc)
+  answered_as h Call.Restart (Call.Setting p) t e f a = absurd (cc)
+  answered_as h Call.Restart (Call.Enabled s g) t e f a = absurd (cc)
+  answered_as h (Call.Reply b) (Call.Submit y n) t e f a = absurd (cc)
+  answered_as h (Call.Reply b) Call.Restart t e f a = absurd (cc)
+  answered_as h (Call.Reply b) (Call.Reply d) t e f a = (a.0, a.1, a.2, a.3, subst (λ z. WrittenInto (reply_text (plan_of k a.0)) z (buffer_of t.call) a.2) f a.4)
+  answered_as h (Call.Reply b) (Call.Setting p) t e f a = absurd (cc)
+  answered_as h (Call.Reply b) (Call.Enabled s g) t e f a = absurd (cc)
+  answered_as h (Call.Setting p) (Call.Submit y n) t e f a = absurd (cc)
+  answered_as h (Call.Setting p) Call.Restart t e f a = absurd (cc)
+  answered_as h (Call.Setting p) (Call.Reply d) t e f a = absurd (cc)
+  answered_as h (Call.Setting p) (Call.Setting q) t e f a =
+      let same : p ≡ q = cc in
+      (a.0, a.1, a.2, a.3, subst (λ z. ValueAt k (plan_of k a.0) z a.2) same a.4)
+  answered_as h (Call.Setting p) (Call.Enabled s g) t e f a = absurd (cc)
+  answered_as h (Call.Enabled s g) (Call.Submit y n) t e f a = absurd (cc)
+  answered_as h (Call.Enabled s g) Call.Restart t e f a = absurd (cc)
+  answered_as h (Call.Enabled s g) (Call.Reply d) t e f a = absurd (cc)
+  answered_as h (Call.Enabled s g) (Call.Setting q) t e f a = absurd (cc)
+  answered_as h (Call.Enabled s g) (Call.Enabled u i) t e f a =
+      let source : s ≡ u = cc in
+      let format : g ≡ i = cc in
+      (a.0, a.1, a.2, a.3, subst (λ z. Decides a.2 (InPlan (plan_of k a.0) (items.Pair u z))) format (subst (λ z. Decides a.2 (InPlan (plan_of k a.0) (items.Pair z g))) source a.4))
+
   holds_alike : (h g : List Turn) (st : State) → Alike h g → HoldsChosen k h st → HoldsChosen k g st
   holds_alike h g st e p = record { stream = p.stream; chosen = chosen_alike h g p.stream e p.chosen; in_force = p.in_force }
 
@@ -119,33 +161,36 @@ module _ (k : Catalogue) where
   keeps_alike h g xs e p = record { stream = p.stream; chosen = chosen_alike h g p.stream e p.chosen; is = p.is }
 
   module _ (come : ComeToOne) (says : SaysWhatIs k) where
-    same_turn : (h g : List Turn) (c : Call) (t u : Turn) → Alike h g → TurnOf k h c t → TurnOf k g c u → (event t ≡ event u) × (told t ≡ told u)
-    same_turn h g c t u e x y =
-        let there : TurnOf k g c t = record { asked_so = x.asked_so; lent = x.lent; answered = answered_alike h g c t e x.answered } in
-        let o = one_turn come k says g c t u there y in
-        let q = x.asked_so ∙ sym y.asked_so in (
+    same_turn : (h g : List Turn) (c d : Call) (t u : Turn) → Alike h g → posed c ≡ posed d → TurnOf k h c t → TurnOf k g d u → (event t ≡ event u) × (told t ≡ told u)
+    same_turn h g c d t u e p x y =
+        let asks : asked_by c ≡ asked_by d = ap (λ z. z.0) p in
+        let there = answered_as g c d t asks (ap (λ z. z.1) p) (answered_alike h g c t e x.answered) in
+        let o = one come k says g d t u (x.asked_so ∙ asks) y.asked_so there y.answered in
+        let q = x.asked_so ∙ (asks ∙ sym y.asked_so) in (
           ap (λ z. record { question = z; answer = t.answer }) q ∙ ap (λ z. record { question = asked u; answer = z }) o.0,
           ap (λ z. (z, buffer_of t.call)) o.0 ∙ ap (λ z. (u.answer, z)) o.1,
         )
 
-    same_runs : (h g : List Turn) (cs : List Call) (ts us : List Turn) → Alike h g → EachAnswered k h cs ts → EachAnswered k g cs us → Alike ts us × (map told ts ≡ map told us)
-    same_runs h g [] [] [] e x y = (refl, refl)
-    same_runs h g [] (t ∷ ts) us e x y = absurd x
-    same_runs h g [] [] (u ∷ us) e x y = absurd y
-    same_runs h g (c ∷ cs) [] us e x y = absurd x
-    same_runs h g (c ∷ cs) (t ∷ ts) [] e x y = absurd y
-    same_runs h g (c ∷ cs) (t ∷ ts) (u ∷ us) e x y =
-        let o = same_turn h g c t u e x.0 y.0 in
+    same_runs : (h g : List Turn) (cs ds : List Call) (ts us : List Turn) → Alike h g → map posed cs ≡ map posed ds → EachAnswered k h cs ts → EachAnswered k g ds us → Alike ts us × (map told ts ≡ map told us)
+    same_runs h g [] [] [] [] e p x y = (refl, refl)
+    same_runs h g [] ds (t ∷ ts) us e p x y = absurd x
+    same_runs h g [] [] [] (u ∷ us) e p x y = absurd y
+    same_runs h g [] (d ∷ ds) [] us e p x y = absurd (cc)
+    same_runs h g (c ∷ cs) ds [] us e p x y = absurd x
+    same_runs h g (c ∷ cs) [] (t ∷ ts) us e p x y = absurd (cc)
+    same_runs h g (c ∷ cs) (d ∷ ds) (t ∷ ts) [] e p x y = absurd y
+    same_runs h g (c ∷ cs) (d ∷ ds) (t ∷ ts) (u ∷ us) e p x y =
+        let o = same_turn h g c d t u e (heads (posed c) (posed d) (map posed cs) (map posed ds) p) x.0 y.0 in
         let more : Alike (h ++ t ∷ []) (g ++ u ∷ []) =
         map-append event h (t ∷ []) ∙ ap (λ l. l ++ event t ∷ []) e ∙ ap (λ z. map event g ++ z ∷ []) o.0 ∙ sym (map-append event g (u ∷ [])) in
-        let r = same_runs (h ++ t ∷ []) (g ++ u ∷ []) cs ts us more x.1 y.1 in
+        let r = same_runs (h ++ t ∷ []) (g ++ u ∷ []) cs ds ts us more (tails (posed c) (posed d) (map posed cs) (map posed ds) p) x.1 y.1 in
         (ap (λ z. z ∷ map event ts) o.0 ∙ ap (λ l. event u ∷ l) r.0, ap (λ z. z ∷ map told ts) o.1 ∙ ap (λ l. told u ∷ l) r.1)
 
-    pub runs_tell_the_same : (cs : List Call) (ts us : List Turn) → EachAnswered k [] cs ts → EachAnswered k [] cs us → map told ts ≡ map told us
-    runs_tell_the_same cs ts us x y = (same_runs [] [] cs ts us refl x y).1
+    pub runs_tell_the_same : (cs ds : List Call) (ts us : List Turn) → map posed cs ≡ map posed ds → EachAnswered k [] cs ts → EachAnswered k [] ds us → map told ts ≡ map told us
+    runs_tell_the_same cs ds ts us p x y = (same_runs [] [] cs ds ts us refl p x y).1
 
-    pub runs_leave_the_same : (cs : List Call) (ts us : List Turn) (st su : State) → EachAnswered k [] cs ts → EachAnswered k [] cs us → HoldsChosen k ts st → HoldsChosen k us su → Agree st su
-    runs_leave_the_same cs ts us st su x y p q = one_state come k says us st su (holds_alike ts us st (same_runs [] [] cs ts us refl x y).0 p) q
+    pub runs_leave_the_same : (cs ds : List Call) (ts us : List Turn) (st su : State) → map posed cs ≡ map posed ds → EachAnswered k [] cs ts → EachAnswered k [] ds us → HoldsChosen k ts st → HoldsChosen k us su → Agree st su
+    runs_leave_the_same cs ds ts us st su p x y m n = one_state come k says us st su (holds_alike ts us st (same_runs [] [] cs ds ts us refl p x y).0 m) n
 
-    pub runs_keep_the_same : (cs : List Call) (ts us : List Turn) (xs ys : List Item) → EachAnswered k [] cs ts → EachAnswered k [] cs us → KeepsChosen k ts xs → KeepsChosen k us ys → xs ≡ ys
-    runs_keep_the_same cs ts us xs ys x y p q = one_kept come k says us xs ys (keeps_alike ts us xs (same_runs [] [] cs ts us refl x y).0 p) q
+    pub runs_keep_the_same : (cs ds : List Call) (ts us : List Turn) (xs ys : List Item) → map posed cs ≡ map posed ds → EachAnswered k [] cs ts → EachAnswered k [] ds us → KeepsChosen k ts xs → KeepsChosen k us ys → xs ≡ ys
+    runs_keep_the_same cs ds ts us xs ys p x y m n = one_kept come k says us xs ys (keeps_alike ts us xs (same_runs [] [] cs ds ts us refl p x y).0 m) n
