@@ -250,7 +250,8 @@ fn own_reply_submitted(rt: &HostRuntime) -> anyhow::Result<()> {
     Ok(())
 }
 
-pub fn play_lists(rt: &HostRuntime) -> anyhow::Result<()> {
+// Plays all lists. What a program prints can be said by no contract: crates/trials/stdout has it, worked out from the rules.
+pub(crate) fn play_lists(rt: &HostRuntime) -> anyhow::Result<()> {
     heights(rt)?;
     settings(rt)?;
     refusals(rt)?;

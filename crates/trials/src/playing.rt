@@ -18,7 +18,7 @@ const FILLING: u8 = b'.';
 
 // A call, with how much is lent to it.
 #[derive(Clone, Copy)]
-pub enum Step {
+pub(crate) enum Step {
     // A text, and how many records the work table has.
     Submit(&'static [u8], usize),
     // A text of spaces, a byte longer than the longest that is read, with a full table.
@@ -69,11 +69,11 @@ fn calls<'a>(
 }
 
 // Prints bytes as they are.
-pub fn write(rt: &HostRuntime, bytes: &[u8]) -> io::Result<()> {
+pub(crate) fn write(rt: &HostRuntime, bytes: &[u8]) -> io::Result<()> {
     rt.stdout().write_all(bytes)
 }
 
-pub fn print_value(rt: &HostRuntime, value: Option<Value>) -> io::Result<()> {
+pub(crate) fn print_value(rt: &HostRuntime, value: Option<Value>) -> io::Result<()> {
     match value {
         Some(Value::Number(n)) => print!(rt; "{n}"),
         Some(Value::Word(word)) => write(rt, word.name()),
@@ -123,7 +123,7 @@ fn print_call(rt: &HostRuntime, call: Call<'_>) -> io::Result<()> {
 }
 
 // Prints the name of the list, then a line for each call.
-pub fn play<S: Scanner + Drop>(
+pub(crate) fn play<S: Scanner + Drop>(
     rt: &HostRuntime,
     name: &str,
     scanner: S,
