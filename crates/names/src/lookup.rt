@@ -29,7 +29,8 @@ pub fn position(letters: &[u8], starts: &[u16], raw: &[u8]) -> Option<usize>
     ensures bound { IfSome result (λ i. i + 1 < length starts.now) }
 {
     let count = starts.len().saturating_sub(1);
-    if unescaped(raw) {
+    // A string longer than all the letters is no name as it stands, so it is not looked through for backslashes.
+    if raw.len() <= letters.len() && unescaped(raw) {
         return (0..count).find(|i| same(raw, name_at(letters, starts, *i)));
     }
     (0..count).find(|i| spells(raw, name_at(letters, starts, *i)))

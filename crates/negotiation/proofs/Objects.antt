@@ -1,11 +1,11 @@
 -- An object of a stream: what lies at it itself, and what is inside it.
-use Rattle.std.proofs.Common.{◌≡◌, Bool, true, false, List, [], ◌∷◌, ◌++◌, Some, None, Ok, Err, Option, Result, is_ok, sym, refl, ap, ◌∙◌, append-nil}
+use Rattle.std.proofs.Common.{◌≡◌, Bool, true, false, List, [], ◌∷◌, ◌++◌, Some, None, Ok, Err, Option, Result, is_ok, ◌≢◌, sym, refl, ap, ◌∙◌, append-nil}
 use Rattle.std.specs.Result.{is_err}
 use Rattle.std.specs.Prelude.{is_some, cond, not}
 use Rattle.table.specs.declared.exception.Exception.{Exception}
 use Rattle.scanner.specs.declared.plan.Item.{Item}
 use Rattle.negotiation.specs.declared.trouble.Trouble.{Trouble}
-use Rattle.negotiation.specs.Troubles.{one_if, reached, object_troubles}
+use Rattle.negotiation.specs.Troubles.{asked, one_if, reached, object_troubles}
 use Rattle.negotiation.specs.Plans.{within, fitted}
 use Rattle.negotiation.specs.Endings.{decide, decided_by}
 use Rattle.negotiation.specs.Tellings.{trouble_of, Noted, Went}
@@ -68,6 +68,38 @@ inside_decided u t o x f s n i d = ap (λ y. decide (one_if u t ++ reached t y f
 
 pub inside_breaks : {X : Type 0} (u : Bool) (t : Trouble) (o : Option X) {x : X} (f : X → List Trouble) {r s : Result (Unit {0}) Trouble} → is_err r ≡ false → Noted (object_troubles u t o (λ x. [])) r → o ≡ Some x → BreaksOff (f x) s → BreaksOff (object_troubles u t o f) s
 inside_breaks {X} u t o {x} f {r} {s} e n i w = record { failed = w.failed; decided = inside_decided u t o x f s (object_quiet u t o x r e n i) i w.decided }
+
+-- behind a trouble that decides nothing else does
+decided_first : (t : Trouble) (ts us : List Trouble) (e : Exception) → t.exception ≡ e → e ≢ Exception.Ignore → decide (t ∷ ts) ≡ decide (t ∷ us)
+decided_first t ts us Exception.Fail h n = ap (λ y. decided_by y t (decide ts)) h ∙ sym (ap (λ y. decided_by y t (decide us)) h)
+decided_first t ts us Exception.Ignore h n = absurd (n refl)
+decided_first t ts us Exception.NextStream h n = ap (λ y. decided_by y t (decide ts)) h ∙ sym (ap (λ y. decided_by y t (decide us)) h)
+
+decides_here : (t : Trouble) (ts : List Trouble) (e : Exception) → t.exception ≡ e → e ≢ Exception.Ignore → decide (t ∷ ts) ≡ Some t
+decides_here t ts Exception.Fail h n = ap (λ y. decided_by y t (decide ts)) h
+decides_here t ts Exception.Ignore h n = absurd (n refl)
+decides_here t ts Exception.NextStream h n = ap (λ y. decided_by y t (decide ts)) h
+
+-- where an unknown member decides, it does so whatever the word means
+pub asked_noted : {X : Type 0} (u : Bool) (t : Trouble) (e : Exception) (m : Option X) {o : Option X} {r : Result (Unit {0}) Trouble} → t.exception ≡ e → o ≡ asked u e m → Noted (object_troubles u t o (λ x. [])) r → Noted (object_troubles u t m (λ x. [])) r
+unfolding object_troubles
+asked_noted u t Exception.Ignore m h q n = rw (sym q) n
+asked_noted false t Exception.Fail m h q n = rw (sym q) n
+asked_noted false t Exception.NextStream m h q n = rw (sym q) n
+asked_noted true t Exception.Fail m {o} h q n = record { decided = decided_first t (reached t m (λ x. [])) (reached t o (λ x. [])) Exception.Fail h (λ z. cc) ∙ n.decided }
+asked_noted true t Exception.NextStream m {o} h q n = record { decided = decided_first t (reached t m (λ x. [])) (reached t o (λ x. [])) Exception.NextStream h (λ z. cc) ∙ n.decided }
+
+quiet_first : {P : Type 0} (t : Trouble) (ts : List Trouble) (e : Exception) (r : Result (Unit {0}) Trouble) → t.exception ≡ e → e ≢ Exception.Ignore → is_err r ≡ false → decide (t ∷ ts) ≡ trouble_of r → P
+quiet_first t ts e r h n f d = let z : Some t ≡ None = sym (decides_here t ts e h n) ∙ d ∙ fine r f in absurd (cc)
+
+-- where no trouble decided, the scanner was asked for what is meant
+pub asked_all : {X : Type 0} (u : Bool) (t : Trouble) (e : Exception) (m : Option X) {o : Option X} {r : Result (Unit {0}) Trouble} → t.exception ≡ e → is_err r ≡ false → Noted (object_troubles u t o (λ x. [])) r → o ≡ asked u e m → o ≡ m
+unfolding object_troubles
+asked_all u t Exception.Ignore m h f n q = q
+asked_all false t Exception.Fail m h f n q = q
+asked_all false t Exception.NextStream m h f n q = q
+asked_all true t Exception.Fail m {o} {r} h f n q = quiet_first t (reached t o (λ x. [])) Exception.Fail r h (λ z. cc) f n.decided
+asked_all true t Exception.NextStream m {o} {r} h f n q = quiet_first t (reached t o (λ x. [])) Exception.NextStream r h (λ z. cc) f n.decided
 
 -- an object with nothing inside: a trouble by its unknown member is the one by its word too
 decided_twice : (t : Trouble) (e : Exception) → t.exception ≡ e → decide (t ∷ t ∷ []) ≡ decide (t ∷ [])

@@ -118,7 +118,7 @@ pub next_first : (n : ℕ) → eqb (n + 1) 0 ≡ false
 next_first n = grind (arith, nat_tests)
 
 pub entry_goes : (f : Bool) (r s : Reader) (b : Bool) → b ≡ true → ReadsEntry f r s (Ok b) → (d : ℕ) → Passed (λ k. entry_frame f d ∷ k) (λ k. value d ∷ entry_frame false d ∷ k) (λ u. u) r s
-entry_goes f r s b e p = rw e at p
+entry_goes f r s b e p = let q : ReadsEntry f r s (Ok true) = rw e at p in q.1
 
 pub entries_over : (f : Bool) (r s : Reader) (b : Bool) → b ≡ false → ReadsEntry f r s (Ok b) → (j : ℕ) × (s.at ≡ j + 1) × ((d : ℕ) → Passed (λ k. entry_frame f d ∷ k) (λ k. k) (event end_array j) r s)
 entries_over f r s b e p = rw e at p

@@ -1,5 +1,6 @@
 // The place record: where in the task the engine is. A guard goes into an object, and its end goes out again.
-ghost use Rattle.std.specs.Prelude.{◌≡◌};
+ghost use Rattle.std.specs.Prelude.{◌≡◌, None, slice_index_or};
+ghost use Rattle.table.specs.Levels.{level_code};
 ghost use Rattle.table.specs.Places.{outside, entered, leaving, steps_of};
 
 use crate::level::Level;
@@ -23,6 +24,8 @@ impl Place {
     pub fn enter(&mut self, level: Level, index: u32) -> Inside<'_>
         ensures same_reference { result.place.ghost_name ≡ self.entry.ghost_name }
         ensures place { result.place.now ≡ entered self.old level index }
+        ensures level { result.level ≡ level }
+        ensures outer { result.outer ≡ slice_index_or self.old.steps (level_code level) None }
         ensures back { leaving result result.place.now ≡ self.old }
     {
         let depth = level.depth();

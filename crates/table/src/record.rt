@@ -4,7 +4,7 @@ use names::{Attribute, PixelFormat, Source, Value};
 use text::Placed;
 
 // What every object below the task has.
-#[derive(Clone, Copy)]
+#[derive(Clone, Copy, PartialEq, Eq)]
 pub struct Head {
     // Its place in its array, skipped entries counted.
     pub index: u32,

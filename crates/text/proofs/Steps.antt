@@ -162,7 +162,7 @@ other_byte c q a i = differs _ c (misses (λ b. eqb b c) q a i)
 
 -- a comma was asked for
 pub comma_read : (first : Bool) {test : Answer} {r s : Reader} (x : Result (Unit {0}) TextFault) → first ≡ false → Expects test r s x → Answers test (λ b. eqb b 44) → ReadsComma first r s x
-comma_read first {r = r} (Ok y) n q a = λ f g h. let p : Separated false f g r = rw n at h in expected f g (λ b. eqb b 44) (Ok y) q a p.0 p.1
+comma_read first {r = r} (Ok y) n q a = (λ e. absurd (let z : ◌≡◌ {A = ℕ} 0 1 = cc in omega arith), λ f g h. let p : Separated false f g r = rw n at h in expected f g (λ b. eqb b 44) (Ok y) q a p.0 p.1)
 comma_read first (Err e) n q a = let w = q.left in (n, w.0.stays, λ i. differs _ 44 (a _ _ (w.0.fails i)), w.1)
 
 -- no comma stands where one must

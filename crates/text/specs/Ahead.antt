@@ -311,9 +311,9 @@ abbrev pub Separated : Bool → Stack → Stack → Reader → Type 0
 Separated true f g r = (Inside r → (k : List Frame) → step (f k) (here r) ≡ step (g k) (here r)) × ((k : List Frame) → over (f k) ≡ over (g k))
 Separated false f g r = (Inside r → (k : List Frame) → step (f k) (here r) ≡ cond (here r == 44) (go (g k)) forbidden) × ((k : List Frame) → over (f k) ≡ false)
 
--- a comma was passed before what is not the first, or none stands here
+-- nothing was passed before the first and a comma before another, or none stands here
 abbrev pub ReadsComma : Bool → Reader → Reader → Result (Unit {0}) TextFault → Type 0
-ReadsComma first r s (Ok x) = (f g : Stack) → Separated first f g r → Onward f g r s
+ReadsComma first r s (Ok x) = (first ≡ true → s ≡ r) × ((f g : Stack) → Separated first f g r → Onward f g r s)
 ReadsComma first r s (Err e) = (first ≡ false) × (s ≡ r) × (Inside r → here r ≢ 44) × (e ≡ Forbidden r.at)
 
 -- where a comma must stand, neither it nor the closing bracket c does
@@ -328,9 +328,15 @@ pub record MemberFails (first : Bool) (r s : Reader) (e : TextFault) : Type 0 wh
   pub early : CommaFails 125 first r s e ⊎ NameFails (λ d k. members first d ∷ k) r s e
   pub halted : (d : ℕ) → Halted (λ k. members first d ∷ k) r s e
 
--- no entry follows, and the array has no end here
+-- after white space the text ends
+pub record TextEnds (r s : Reader) (e : TextFault) : Type 0 where
+  pub blank : Blank r s
+  pub over : length s.text.now ≤ s.at
+  pub fault : e ≡ Forbidden s.at
+
+-- no entry follows, and the array has no end here: the text ends, or a comma is missing
 pub record EntryFails (first : Bool) (r s : Reader) (e : TextFault) : Type 0 where
-  pub early : CommaFails 93 first r s e
+  pub early : TextEnds r s e ⊎ CommaFails 93 first r s e
   pub halted : (d : ℕ) → Halted (λ k. entries first d ∷ k) r s e
 
 -- a member's name, or the object's end, or the fault of the text
@@ -341,7 +347,7 @@ ReadsMember first r s (Err e) = MemberFails first r s e
 
 -- an entry follows, or the array's end was passed, or the fault of the text was found
 abbrev pub ReadsEntry : Bool → Reader → Reader → Result Bool TextFault → Type 0
-ReadsEntry first r s (Ok true) = (d : ℕ) → Onward (λ k. entries first d ∷ k) (λ k. value d ∷ entries false d ∷ k) r s
+ReadsEntry first r s (Ok true) = (first ≡ true → Inside s) × ((d : ℕ) → Onward (λ k. entries first d ∷ k) (λ k. value d ∷ entries false d ∷ k) r s)
 ReadsEntry first r s (Ok false) = (j : ℕ) × (s.at ≡ j + 1) × ((d : ℕ) → Passed (λ k. entries first d ∷ k) (λ k. k) (event end_array j) r s)
 ReadsEntry first r s (Err e) = EntryFails first r s e
 

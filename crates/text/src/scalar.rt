@@ -163,7 +163,7 @@ impl<'a> Reader<'a> {
         self.continuations(lead.more)
     }
 
-    // One character or escape of a string.
+    // One character or escape of a string, and all characters of one byte that stand behind a character of one byte as they are.
     // The condition stays: a quote ends the string, which `characters` sees; a contract of it here too would be no plainer.
     fn character(&mut self) -> Result<(), TextFault>
         requires { Inside self.old → here self.old ≢ 34 }
@@ -177,6 +177,7 @@ impl<'a> Reader<'a> {
             }
             Some(0x20..=0x7f) => {
                 self.at += 1;
+                self.plain();
                 Ok(())
             }
             _ => self.wide(),
@@ -194,10 +195,8 @@ impl<'a> Reader<'a> {
     pub(crate) fn characters(&mut self) -> Result<usize, TextFault>
         ensures { ReadsTo (λ k. chars ∷ k) (λ k. k) self.old self.new result }
     {
-        self.plain();
         while !self.accept(|b| b == b'"') {
             self.character()?;
-            self.plain();
         }
         Ok(self.at - 1)
     }

@@ -79,6 +79,7 @@ fn lower(u: u32) -> u32
 }
 
 // Whether the units that the bytes stand for are the letters of the name, one by one, where `same` tells.
+#[inline(always)]
 fn compare<F: Fn(u32, u8) -> bool>(raw: &[u8], name: &[u8], same: F) -> bool
     requires { F.IsAlwaysCallable same }
     ensures { (fold : Bool) → Compares (F.post same) (alike fold) → result ≡ matching fold (units Plain raw.now) name.now }
@@ -115,12 +116,14 @@ pub fn same(raw: &[u8], name: &[u8]) -> bool
 }
 
 // Whether the string with these bytes between its quotes stands for the letters of the name.
+#[inline(always)]
 pub fn spells(raw: &[u8], name: &[u8]) -> bool
     ensures tells { Tells result (stands raw.now ≡ name.now) }
     ensures letters { result ≡ matching false (stands raw.now) name.now }
 {
-    if unescaped(raw) {
-        return same(raw, name);
+    // By bytes where they are the name's own; else up to the first character that is not, however long the string is.
+    if raw.len() == name.len() && same(raw, name) && unescaped(raw) {
+        return true;
     }
     compare(raw, name, |u, letter| u == u32::from(letter))
 }

@@ -1,7 +1,7 @@
 // What a reader yields: parts of the text, each with its offset.
 
 // A value of any type and the offset at which it stands in the text.
-#[derive(Clone, Copy, Debug)]
+#[derive(Clone, Copy, PartialEq, Eq, Debug)]
 pub struct Placed<T> {
     pub value: T,
     pub offset: usize,

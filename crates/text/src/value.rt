@@ -184,6 +184,7 @@ impl<'a> Reader<'a> {
     }
 
     // In an array: whether an entry follows; the array's bracket is passed where none does. The caller tells of the first here too.
+    // Where the text ends no entry follows, the first as little as another.
     #[inline(always)]
     pub fn entry(&mut self, first: bool) -> Result<bool, TextFault>
         ensures { ReadsEntry first self.old self.new result }
@@ -192,6 +193,9 @@ impl<'a> Reader<'a> {
         if self.accept(|b| b == b']') {
             return Ok(false);
         }
+        let Some(_) = self.peek() else {
+            return Err(self.forbidden());
+        };
         self.comma(first)?;
         Ok(true)
     }

@@ -15,7 +15,7 @@ use Rattle.text.proofs.reader.Reader.+array_object_value.Goals as goal
 use Rattle.text.proofs.reader.Reader.+array_object_value.Goals.{value-in-Object+in_ok-object-in-Object, value-in-Array+in_ok-array-in-Array, value-in_default}
 
 entry_goes : (f : Bool) (r s : Reader) (b : Bool) → b ≡ true → ReadsEntry f r s (Ok b) → (d : ℕ) → Onward (λ k. entries f d ∷ k) (λ k. value d ∷ entries false d ∷ k) r s
-entry_goes f r s b e p = rw e at p
+entry_goes f r s b e p = let q : ReadsEntry f r s (Ok true) = rw e at p in q.1
 
 entries_over : (f : Bool) (r s : Reader) (b : Bool) → b ≡ false → ReadsEntry f r s (Ok b) → (j : ℕ) × (s.at ≡ j + 1) × ((d : ℕ) → Passed (λ k. entries f d ∷ k) (λ k. k) (event end_array j) r s)
 entries_over f r s b e p = rw e at p

@@ -1,7 +1,7 @@
 use Rattle.std.proofs.Common.{is_some, ap, refl, arith}
 use Rattle.std.proofs.lemmas.Bool.Decides.{nat_tests}
 use Rattle.text.specs.Machine.{step, over}
-use Rattle.text.proofs.Steps.{told, one, then_reads}
+use Rattle.text.proofs.Steps.{told, one, then, then_reads}
 use Rattle.text.proofs.reader.Reader.character.Goals as goal
 use Rattle.text.proofs.reader.Reader.character.Goals.{in_default-via-in-Some+in_default+then-this-lt32, in_default-via-in-Some+in_default+else-this-lt32+else-this-lt128, in_default-via-in_default}
 
@@ -11,7 +11,10 @@ returns-in-Some-eq92-clause-reads c = let p = c.in-Some-eq92.ensures in then_rea
 
 pub returns-in-Some-32-to-127-clause-reads : goal.returns-in-Some-32-to-127-clause-reads
 unfolding step
-returns-in-Some-32-to-127-clause-reads c = let p = c.in-Some-32-to-127.ensures in one p.0 refl refl (λ k. let r = c.requires p.0 in grind (arith, nat_tests, r))
+returns-in-Some-32-to-127-clause-reads c = let p = c.in-Some-32-to-127.ensures in then (one p.0 refl refl (λ k. let r = c.requires p.0 in grind (arith, nat_tests, r))) c.plain.ensures
+
+pub returns-in-Some-32-to-127-clause-further : goal.returns-in-Some-32-to-127-clause-further
+returns-in-Some-32-to-127-clause-further c = let j = c.plain.ensures.forth in omega arith
 
 pub returns-in_default-clause-reads : goal.returns-in_default-clause-reads
 unfolding step over

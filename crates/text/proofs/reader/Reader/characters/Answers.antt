@@ -8,5 +8,4 @@ unfolding step
 returns c =
     let p = c.accept.ensures.passed c.loop-self-test.false in
     let i = c.loop-self.invariant.forth in
-    let j = c.plain.ensures.forth in
-    (then c.plain.ensures (then c.loop-self.invariant (took (λ b. eqb b 34) _ p (λ b x m. search rules) (λ k. refl))), omega (arith, p.next), omega (arith, p.next))
+    (then c.loop-self.invariant (took (λ b. eqb b 34) _ p (λ b x m. search rules) (λ k. refl)), omega (arith, p.next), omega (arith, p.next))

@@ -54,9 +54,9 @@ pub returns-in_err-name : goal.returns-in_err-name
 returns-in_err-name c =
     let w = c.accept.ensures.left c.if-accept.false in
     broken (ReadsMember _ _ _) _ c.from_residual-in_err-name.ensures.1
-    (then_name_fails c.args.first (λ d. then (then_left (c.blanks.ensures.runs _ (skip_members c.args.first d)) w) (c.in_ok-comma.ensures _ _ (separated c.args.first d c.blanks.ensures.stops w (λ b x m. search rules)))) c.in_err-name.ensures)
+    (then_name_fails c.args.first (λ d. then (then_left (c.blanks.ensures.runs _ (skip_members c.args.first d)) w) (c.in_ok-comma.ensures.1 _ _ (separated c.args.first d c.blanks.ensures.stops w (λ b x m. search rules)))) c.in_err-name.ensures)
 
 pub returns : goal.returns
 returns c =
     let w = c.accept.ensures.left c.if-accept.false in
-    then_name c.args.first _ _ _ _ _ (λ d. then (then_left (c.blanks.ensures.runs _ (skip_members c.args.first d)) w) (c.in_ok-comma.ensures _ _ (separated c.args.first d c.blanks.ensures.stops w (λ b x m. search rules)))) c.in_ok-name.ensures
+    then_name c.args.first _ _ _ _ _ (λ d. then (then_left (c.blanks.ensures.runs _ (skip_members c.args.first d)) w) (c.in_ok-comma.ensures.1 _ _ (separated c.args.first d c.blanks.ensures.stops w (λ b x m. search rules)))) c.in_ok-name.ensures
